@@ -1,0 +1,2 @@
+pub mod NumberedLaws
+pub mod Unique

@@ -1,0 +1,1 @@
+// Nothing to run: definitions and laws that every layer shares.

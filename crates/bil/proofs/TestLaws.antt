@@ -1,0 +1,43 @@
+-- Tests in a row, and what a good call is good for. Assumes nothing.
+use mathlib.Core.Path.{_≡_, refl, sym, ap, _∙_, subst}
+use mathlib.Core.Bool.{Bool, true, false, not, _&&_}
+use Prim.Native.Nat.{ℕ, _^_}
+use lib.Dec.{T, leb, ltb}
+use borrow.Author.Tests.{not-true, not-false, leb-true, ltb-true}
+use Rattle.word.specs.Words.{Width, AreWords}
+use Rattle.bil.specs.WordCalls.{within, good}
+
+-- ------------------------------------------------------------------------------------------------
+-- Tests that a function gave, after `if !test { return false; }`
+
+pub passed : {r t : Bool} → r ≡ t → not r ≡ false → t ≡ true
+passed e n = sym e ∙ not-false _ n
+
+pub failed : {r t : Bool} → r ≡ t → not r ≡ true → t ≡ false
+failed e n = sym e ∙ not-true _ n
+
+-- a first test that fails decides
+pub fails-here : {a : Bool} (b : Bool) → a ≡ false → false ≡ (a && b)
+fails-here b e = sym (ap (λ (t : Bool). t && b) e)
+
+-- after one that passes the others decide
+pub goes-on : {a b x : Bool} → a ≡ true → x ≡ b → x ≡ (a && b)
+goes-on {b = b} e d = d ∙ sym (ap (λ (t : Bool). t && b) e)
+
+both : (a b : Bool) → (a && b) ≡ true → (a ≡ true) × (b ≡ true)
+both true b e = (refl, e)
+both false b e = absurd (subst T (sym e) tt)
+
+-- ------------------------------------------------------------------------------------------------
+-- Good calls
+
+pub good-words : (sub width a b : ℕ) → good sub width a b ≡ true → AreWords width a b
+good-words sub width a b e =
+    let w = both (within 1 64 width) _ (both (within 1 19 sub) _ e .1) in
+    let l = both (leb 1 width) _ (w .0) in
+    let f = both (ltb a (2 ^ width)) _ (w .1) in
+    record {
+      width = record { least = leb-true 1 width (l .0); most = leb-true width 64 (l .1) };
+      left = ltb-true a (2 ^ width) (f .0);
+      right = ltb-true b (2 ^ width) (f .1);
+    }

@@ -1,0 +1,75 @@
+// The library's face: what C programs call. include/bil.h declares the same functions.
+//
+// Every function takes every number that can be passed to it and asks nothing of its caller.
+ghost use mathlib.Core.Path.{_≡_};
+ghost use Rattle.bil.specs.WordCalls as WordCalls;
+use word::Computed;
+
+// Whether n is from least to most.
+fn within(least: u32, most: u32, n: u32) -> bool
+    ensures { λ r. ⌜ r ≡ WordCalls.within least most n ⌝ }
+{
+    least <= n && n <= most
+}
+
+// Whether there is such a sub and such a width, and both words fit it.
+fn good(sub: u32, width: u32, a: u64, b: u64) -> bool
+    ensures { λ r. ⌜ r ≡ WordCalls.good sub width a b ⌝ }
+{
+    if !within(word::subs::PLUS, word::subs::SLE, sub) {
+        return false;
+    }
+    if !within(1, 64, width) {
+        return false;
+    }
+    if !word::width::fits(width, a) {
+        return false;
+    }
+    word::width::fits(width, b)
+}
+
+// The answer to a call of a binary operation.
+pub enum WordCall {
+    // A bad sub, width or word.
+    Bad,
+    Word(u64),
+    Unknown,
+}
+
+// What a binary operation gives for any numbers.
+fn word_call(sub: u32, width: u32, a: u64, b: u64) -> WordCall
+    ensures { λ r. ⌜ r ≡ WordCalls.call sub width a b ⌝ }
+{
+    if good(sub, width, a, b) {
+        match word::binary(sub, width, a, b) {
+            Computed::Word(r) => WordCall::Word(r),
+            Computed::Unknown => WordCall::Unknown,
+        }
+    } else {
+        WordCall::Bad
+    }
+}
+
+// The kind of what a binary operation gives: 0 for a bad sub, width or word, 1 a word, 2 unknown.
+#[no_mangle]
+pub extern "C" fn bil_word_kind(sub: u32, width: u32, a: u64, b: u64) -> u32
+    ensures { λ r. ⌜ r ≡ WordCalls.kind (WordCalls.call sub width a b) ⌝ }
+{
+    match word_call(sub, width, a, b) {
+        WordCall::Bad => 0,
+        WordCall::Word(_) => 1,
+        WordCall::Unknown => 2,
+    }
+}
+
+// The word that a binary operation gives, 0 unless the kind is 1.
+#[no_mangle]
+pub extern "C" fn bil_word_value(sub: u32, width: u32, a: u64, b: u64) -> u64
+    ensures { λ r. ⌜ r ≡ WordCalls.value (WordCalls.call sub width a b) ⌝ }
+{
+    match word_call(sub, width, a, b) {
+        WordCall::Bad => 0,
+        WordCall::Word(r) => r,
+        WordCall::Unknown => 0,
+    }
+}

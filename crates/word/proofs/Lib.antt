@@ -1,0 +1,12 @@
+pub mod TestLaws
+pub mod WidthLaws
+pub mod FitLaws
+pub mod ArithmeticLaws
+pub mod BitLaws
+pub mod SignedLaws
+pub mod ShiftLaws
+pub mod CompareLaws
+pub mod DivisionLaws
+pub mod CastLaws
+pub mod SubLaws
+pub mod Unique

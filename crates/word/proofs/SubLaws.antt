@@ -1,0 +1,77 @@
+-- What stands under a sub gives a word of its width. Assumes nothing.
+use mathlib.Core.Path.{_≡_, refl, sym, subst}
+use mathlib.Core.Bool.{true, false, not}
+use mathlib.Core.List.{List, [], _∷_}
+use Prim.Native.Nat.{ℕ, _+_, _-_, _*_, _^_, min}
+use native.Mathlib.Nat.{lt-of-lt-of-le}
+use lib.Dec.{leb, ltb, eqb}
+use lib.Pow.{pow-mono}
+use lib.Signed.{ltZ, leZ, quotZ, remZ, shrZ}
+use borrow.Author.Tests.{eqb-true}
+use Rattle.base.specs.Numbered.{numbered}
+use Rattle.word.specs.declared.Computed.the-variants.{Unknown}
+use Rattle.word.specs.Words.{IsWord, AreWords, FitsIn, signed}
+use Rattle.word.specs.Subs as Subs
+use Rattle.word.proofs.FitLaws.{mod-fits, word-fits, bit-fits, not-fits, div-fits, rem-fits, unless-zero-fits, and-fits, or-fits, xor-fits, high-fits}
+
+infixr 4 _then_
+-- ------------------------------------------------------------------------------------------------
+-- A property of every entry of a numbered list
+
+-- P of each entry, at its number
+pub data All {ℓ} {X : Type ℓ} (P : ℕ → X → Type 0) : List (ℕ × X) → Type ℓ where
+  end : All P []
+  _then_ : {e : ℕ × X} {rest : List (ℕ × X)} → P (e .0) (e .1) → All P rest → All P (e ∷ rest)
+
+-- what holds of each entry at its number, and of the other at every number, holds of what a number finds
+pub numbered-all {ℓ} : {X : Type ℓ} (P : ℕ → X → Type 0) (other : X) → ((k : ℕ) → P k other) → (l : List (ℕ × X)) → All P l
+    → (k : ℕ) → P k (numbered other l k)
+numbered-all P other o [] end k = o k
+numbered-all P other o (e ∷ rest) (p then ps) k =
+    elim (eqb k (e .0)) as (λ t. eqb k (e .0) ≡ t → P k (elim t [ true ↦ e .1 | false ↦ numbered other rest k ])) [
+      | true ↦ λ q. subst (λ (n : ℕ). P n (e .1)) (sym (eqb-true k (e .0) q)) p
+      | false ↦ λ q. numbered-all P other o rest ps k
+    ] refl
+
+-- ------------------------------------------------------------------------------------------------
+-- Binary, unary and cast
+
+pub binary-fits : (sub w a b : ℕ) → AreWords w a b → FitsIn (Subs.binaryWidth sub w) (Subs.binary sub w a b)
+binary-fits sub w a b h =
+    numbered-all (λ k f. FitsIn (Subs.binaryWidth k w) (f w a b)) (λ w a b. Unknown) (λ k. tt) Subs.binaries
+    (mod-fits w (a + b)
+    then mod-fits w (a + (2 ^ w - b))
+    then mod-fits w (a * b)
+    then unless-zero-fits w b (div-fits w b (h .left))
+    then unless-zero-fits w b (word-fits w (quotZ (signed w a) (signed w b)))
+    then unless-zero-fits w b (rem-fits w b (h .left))
+    then unless-zero-fits w b (word-fits w (remZ (signed w a) (signed w b)))
+    then and-fits w a b
+    then or-fits w a b
+    then xor-fits w a b
+    then mod-fits w (a * 2 ^ min b w)
+    then div-fits w (2 ^ min b w) (h .left)
+    then word-fits w (shrZ (signed w a) (2 ^ min b w))
+    then bit-fits (eqb a b)
+    then bit-fits (not (eqb a b))
+    then bit-fits (ltb a b)
+    then bit-fits (leb a b)
+    then bit-fits (ltZ (signed w a) (signed w b))
+    then bit-fits (leZ (signed w a) (signed w b))
+    then end)
+    sub
+
+pub unary-fits : (sub w a : ℕ) → FitsIn w (Subs.unary sub w a)
+unary-fits sub w a =
+    numbered-all (λ k f. FitsIn w (f w a)) (λ w a. Unknown) (λ k. tt) Subs.unaries
+    (mod-fits w (2 ^ w - a) then not-fits w a then end) sub
+
+pub cast-fits : (sub w p a : ℕ) → IsWord w a → Subs.CastFits sub w p → FitsIn p (Subs.cast sub w p a)
+cast-fits sub w p a h =
+    numbered-all (λ k f. Subs.CastFits k w p → FitsIn p (f w p a)) (λ w p a. Unknown) (λ k c. tt) Subs.casts
+    ((λ c. mod-fits p a)
+    then (λ c. high-fits w p a c (h .fits))
+    then (λ c. word-fits p (signed w a))
+    then (λ c. lt-of-lt-of-le (h .fits) (pow-mono c))
+    then end)
+    sub
