@@ -1,2 +1,6 @@
+pub mod BoolLaws
+pub mod CourseLaws
 pub mod NumberedLaws
+pub mod RangeLaws
+pub mod RefusalLaws
 pub mod Unique

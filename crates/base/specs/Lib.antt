@@ -1,2 +1,4 @@
 pub mod Choice
+pub mod Course
 pub mod Numbered
+pub mod Refusals

@@ -4,8 +4,9 @@ use mathlib.Core.Bool.{Bool, true, false, not, _&&_}
 use Prim.Native.Nat.{ℕ, _^_}
 use lib.Dec.{T, leb, ltb}
 use borrow.Author.Tests.{not-true, not-false, leb-true, ltb-true}
-use Rattle.word.specs.Words.{Width, AreWords}
-use Rattle.bil.specs.WordCalls.{within, good}
+use Rattle.word.specs.Words.{AreWords}
+use Rattle.base.specs.Choice.{within}
+use Rattle.bil.specs.WordCalls.{good}
 
 -- ------------------------------------------------------------------------------------------------
 -- Tests that a function gave, after `if !test { return false; }`

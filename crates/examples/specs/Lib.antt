@@ -1,1 +1,4 @@
 pub mod Examples
+pub mod Refused
+pub mod Runs
+pub mod Secrets

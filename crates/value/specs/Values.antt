@@ -1,7 +1,6 @@
 -- Values and the operations on them: "A value is a word, unknown, or a memory. Unknown keeps its type."
 -- The names in capitals are rules of 002. Laws stand in proofs/. Assumes nothing.
 use mathlib.Core.Path.{_≡_}
-use mathlib.Core.Bool.{Bool, true, false}
 use Prim.Native.Nat.{ℕ, _+_, _-_}
 use lib.Dec.{eqb}
 use Rattle.base.specs.Choice.{if_then_else_}

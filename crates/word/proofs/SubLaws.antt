@@ -1,37 +1,15 @@
 -- What stands under a sub gives a word of its width. Assumes nothing.
-use mathlib.Core.Path.{_≡_, refl, sym, subst}
-use mathlib.Core.Bool.{true, false, not}
-use mathlib.Core.List.{List, [], _∷_}
+use mathlib.Core.Bool.{not}
 use Prim.Native.Nat.{ℕ, _+_, _-_, _*_, _^_, min}
 use native.Mathlib.Nat.{lt-of-lt-of-le}
 use lib.Dec.{leb, ltb, eqb}
 use lib.Pow.{pow-mono}
 use lib.Signed.{ltZ, leZ, quotZ, remZ, shrZ}
-use borrow.Author.Tests.{eqb-true}
-use Rattle.base.specs.Numbered.{numbered}
+use Rattle.base.proofs.NumberedLaws.{end, _then_, numbered-all}
 use Rattle.word.specs.declared.Computed.the-variants.{Unknown}
 use Rattle.word.specs.Words.{IsWord, AreWords, FitsIn, signed}
 use Rattle.word.specs.Subs as Subs
 use Rattle.word.proofs.FitLaws.{mod-fits, word-fits, bit-fits, not-fits, div-fits, rem-fits, unless-zero-fits, and-fits, or-fits, xor-fits, high-fits}
-
-infixr 4 _then_
--- ------------------------------------------------------------------------------------------------
--- A property of every entry of a numbered list
-
--- P of each entry, at its number
-pub data All {ℓ} {X : Type ℓ} (P : ℕ → X → Type 0) : List (ℕ × X) → Type ℓ where
-  end : All P []
-  _then_ : {e : ℕ × X} {rest : List (ℕ × X)} → P (e .0) (e .1) → All P rest → All P (e ∷ rest)
-
--- what holds of each entry at its number, and of the other at every number, holds of what a number finds
-pub numbered-all {ℓ} : {X : Type ℓ} (P : ℕ → X → Type 0) (other : X) → ((k : ℕ) → P k other) → (l : List (ℕ × X)) → All P l
-    → (k : ℕ) → P k (numbered other l k)
-numbered-all P other o [] end k = o k
-numbered-all P other o (e ∷ rest) (p then ps) k =
-    elim (eqb k (e .0)) as (λ t. eqb k (e .0) ≡ t → P k (elim t [ true ↦ e .1 | false ↦ numbered other rest k ])) [
-      | true ↦ λ q. subst (λ (n : ℕ). P n (e .1)) (sym (eqb-true k (e .0) q)) p
-      | false ↦ λ q. numbered-all P other o rest ps k
-    ] refl
 
 -- ------------------------------------------------------------------------------------------------
 -- Binary, unary and cast

@@ -1,7 +1,6 @@
 -- Paper 01's numbers of the operations on words: the subs of op 5 (binary), op 6 (unary) and op 7 (cast). Assumes nothing.
-use mathlib.Core.Bool.{Bool, true, false}
 use mathlib.Core.List.{List, [], _∷_}
-use Prim.Native.Nat.{ℕ, _-_, _≤_}
+use Prim.Native.Nat.{ℕ, _≤_}
 use lib.Dec.{leb}
 use Rattle.base.specs.Choice.{if_then_else_}
 use Rattle.base.specs.Numbered.{numbered}

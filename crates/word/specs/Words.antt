@@ -1,6 +1,6 @@
 -- Words of 1 to 64 bits: what each operation of paper 01 gives.
 -- A word of width w is a number below 2 ^ w, and each operation is arithmetic on such numbers. The comment above a definition
--- quotes the sentence of paper 01 that it states. Laws about them stand in proofs/. Assumes nothing.
+-- quotes the sentence of paper 01 that it states; `completed` marks what 002 leaves open. Laws about them stand in proofs/. Assumes nothing.
 use mathlib.Core.Path.{_≡_}
 use mathlib.Core.Bool as Bool'
 use mathlib.Core.Bool.{Bool, true, false}
@@ -100,7 +100,7 @@ wordOf w (pos n) = n % 2 ^ w
 wordOf w (negsuc n) = 2 ^ w - suc (n % 2 ^ w)
 
 -- ------------------------------------------------------------------------------------------------
--- Shifts: "A shift by the width or more gives zeros, for asr the sign."
+-- Shifts; completed: "A shift by the width or more gives zeros, for asr the sign."
 -- So a shift by more than the width is one by the width.
 
 abbrev pub lsl : ℕ → ℕ → ℕ → ℕ
@@ -135,7 +135,7 @@ abbrev pub sle : ℕ → ℕ → ℕ → ℕ
 sle w a b = bit (leZ (signed w a) (signed w b))
 
 -- ------------------------------------------------------------------------------------------------
--- Division: "Div, sdiv, mod and smod by zero give unknown, since 002 doesn't define them."
+-- Division; completed: "Div, sdiv, mod and smod by zero give unknown, since 002 doesn't define them."
 
 abbrev pub unlessZero : ℕ → ℕ → Computed
 unlessZero divisor r = if eqb divisor 0 then Unknown else Word r

@@ -1,7 +1,6 @@
 -- `bil::word_call`: a good call is the operation's, and every other is bad. Assumes nothing.
 use mathlib.Core.Path.{_≡_, sym, ap, _∙_}
-use mathlib.Core.Bool.{Bool, true, false}
-use Prim.Native.Nat.{ℕ}
+use mathlib.Core.Bool.{Bool}
 use borrow.Author.Needs.{needs}
 use Rattle.base.specs.Choice.{if_then_else_}
 use Rattle.word.specs.declared.Computed.{Computed}

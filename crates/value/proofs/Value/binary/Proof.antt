@@ -4,7 +4,7 @@ use Prim.Native.Nat.{ℕ}
 use borrow.Author.Needs.{needs}
 use Rattle.value.specs.declared.ValueType.the-variants.{Imm}
 use Rattle.value.specs.declared.Value.{Value}
-use Rattle.value.specs.declared.Value.the-variants.{Word, Unknown}
+use Rattle.value.specs.declared.Value.the-variants.{Unknown}
 use Rattle.value.specs.Values as Values
 use Rattle.value.specs.Values.{Sound, Yields, typeOf, size}
 use Rattle.word.specs.Subs.{binaryWidth}

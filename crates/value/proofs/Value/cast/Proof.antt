@@ -1,10 +1,8 @@
 -- `Value::cast`: case by case; that the result is sound and has its type are laws. Assumes nothing.
-use mathlib.Core.Path.{_≡_, ap, ap₂, sym, subst, _∙_}
-use Prim.Native.Nat.{ℕ}
+use mathlib.Core.Path.{_≡_, ap, sym, subst, _∙_}
 use borrow.Author.Needs.{needs}
 use Rattle.value.specs.declared.ValueType.the-variants.{Imm}
 use Rattle.value.specs.declared.Value.{Value}
-use Rattle.value.specs.declared.Value.the-variants.{Word, Unknown}
 use Rattle.word.specs.Subs.{CastFits}
 use Rattle.value.specs.Values as Values
 use Rattle.value.specs.Values.{Sound, Yields, typeOf, size}

@@ -1,13 +1,12 @@
 -- `Value::choose`: case by case; that the result is sound and has its type are laws. Assumes nothing.
-use mathlib.Core.Path.{_≡_, ap, ap₂, sym, subst, _∙_}
+use mathlib.Core.Path.{_≡_, ap, sym, _∙_}
 use mathlib.Core.Bool.{Bool}
 use Rattle.base.specs.Choice.{if_then_else_}
 use borrow.Author.Needs.{needs}
-use Rattle.value.specs.declared.ValueType.the-variants.{Imm}
 use Rattle.value.specs.declared.Value.{Value}
-use Rattle.value.specs.declared.Value.the-variants.{Word, Unknown}
+use Rattle.value.specs.declared.Value.the-variants.{Unknown}
 use Rattle.value.specs.Values as Values
-use Rattle.value.specs.Values.{Sound, Yields, typeOf, size}
+use Rattle.value.specs.Values.{Yields, typeOf}
 use borrow.Author.Tests.{eq-eqb, ne-eqb}
 use Rattle.value.proofs.ValueLaws.{yields, choose-sound, choose-type}
 use Rattle.value.proofs.Value.choose.Statement.{statement}

@@ -1,12 +1,12 @@
 -- `Value::extract`: case by case; that the result is sound and has its type are laws. Assumes nothing.
-use mathlib.Core.Path.{_≡_, ap, ap₂, sym, subst, _∙_}
+use mathlib.Core.Path.{_≡_, ap, sym, subst, _∙_}
 use Prim.Native.Nat.{_+_, _-_}
 use borrow.Author.Needs.{needs}
 use Rattle.value.specs.declared.ValueType.the-variants.{Imm}
 use Rattle.value.specs.declared.Value.{Value}
-use Rattle.value.specs.declared.Value.the-variants.{Word, Unknown}
+use Rattle.value.specs.declared.Value.the-variants.{Word}
 use Rattle.value.specs.Values as Values
-use Rattle.value.specs.Values.{Sound, Yields, typeOf, size}
+use Rattle.value.specs.Values.{Sound, Yields}
 use Rattle.value.proofs.ValueLaws.{yields, extract-sound, extract-type}
 use Rattle.value.proofs.Value.extract.Statement.{statement}
 use Rattle.value.proofs.Value.extract.Tie as tie

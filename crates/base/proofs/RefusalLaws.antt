@@ -1,0 +1,141 @@
+-- The answer is accepted exactly where every rule holds, and else the first rule that fails, at its lowest place; so at most one
+-- answer fits. Assumes nothing.
+use mathlib.Core.Path.{_≡_, refl, subst}
+use mathlib.Core.Bool.{Bool, true, false}
+use mathlib.Core.List.{List, [], _∷_, _++_}
+use mathlib.Core.Logic.{_↔_}
+use mathlib.Core.Option.{Option, none, some}
+use Prim.Native.Nat.{ℕ, zero, suc, _<_}
+use native.Mathlib.Nat.{not-suc-le-zero}
+use native.Mathlib.Decide.{decLt}
+use native.Mathlib.Omega.{arith}
+use Rattle.base.specs.Choice.{if_then_else_}
+use Rattle.base.specs.Refusals.{Rule, HoldsBelow, AllHold, no-rule, one-more, FirstFault, here, further, firstBad, refusal}
+use Rattle.base.specs.declared.Answer.{Answer}
+use Rattle.base.specs.declared.Answer.the-variants.{Accepted, Refused}
+use Rattle.base.proofs.BoolLaws.{not-both}
+
+-- ------------------------------------------------------------------------------------------------
+-- The lowest place where a test fails
+
+-- what the search over the first n places finds
+data Finds (holds : ℕ → Bool) (n : ℕ) : Option ℕ → Type 0 where
+  nowhere : HoldsBelow holds n → Finds holds n none
+  lowest : {place : ℕ} → place < n → HoldsBelow holds place → holds place ≡ false → Finds holds n (some place)
+
+holds-at-last : (holds : ℕ → Bool) (n : ℕ) → HoldsBelow holds n → holds n ≡ true → HoldsBelow holds (suc n)
+holds-at-last holds n below last i h = go (decLt i n)
+  where
+    go : Dec (i < n) → holds i ≡ true
+    go (yes k) = below i k
+    go (no k) = let e : i ≡ n = omega arith in rw e last
+
+firstBad-finds : (holds : ℕ → Bool) (n : ℕ) → Finds holds n (firstBad holds n)
+unfolding firstBad
+firstBad-finds holds zero = nowhere (λ i h. absurd (not-suc-le-zero h))
+firstBad-finds holds (suc n) = go (firstBad holds n) (holds n) refl (firstBad-finds holds n)
+  where
+    go : (o : Option ℕ) (t : Bool) → holds n ≡ t → Finds holds n o
+        → Finds holds (suc n) (elim o [ none ↦ if t then none else some n | some place ↦ some place ])
+    go none true e (nowhere below) = nowhere (holds-at-last holds n below e)
+    go none false e (nowhere below) = lowest {place = n} (omega arith) below e
+    go (some place) t e (lowest inside below fails) = lowest {place = place} (omega arith) below fails
+
+firstBad-none : (holds : ℕ → Bool) (n : ℕ) → HoldsBelow holds n → firstBad holds n ≡ none
+firstBad-none holds n all = go (firstBad-finds holds n)
+  where
+    go : {o : Option ℕ} → Finds holds n o → o ≡ none
+    go (nowhere below) = refl
+    go (lowest inside below fails) = absurd (not-both (all _ inside) fails)
+
+firstBad-some :
+    (holds : ℕ → Bool) (n place : ℕ) → place < n → HoldsBelow holds place → holds place ≡ false → firstBad holds n ≡ some place
+firstBad-some holds n place inside below fails = go (firstBad-finds holds n)
+  where
+    go : {o : Option ℕ} → Finds holds n o → o ≡ some place
+    go (nowhere all) = absurd (not-both (all place inside) fails)
+    go (lowest {place = other} inside′ below′ fails′) = same (decLt place other) (decLt other place)
+      where
+        same : Dec (place < other) → Dec (other < place) → some other ≡ some place
+        same (yes k) d = absurd (not-both (below′ place k) fails)
+        same (no k) (yes l) = absurd (not-both (below other l) fails′)
+        same (no k) (no l) = let e : other ≡ place = omega arith in rw e
+
+-- ------------------------------------------------------------------------------------------------
+-- The answer
+
+-- an answer that says what is so
+data Fits (rules : List Rule) : Answer → Type 0 where
+  accepted : AllHold rules → Fits rules Accepted
+  refused : {code place : ℕ} → FirstFault rules code place → Fits rules (Refused code place)
+
+refusal-fits : (rules : List Rule) → Fits rules (refusal rules)
+unfolding refusal
+refusal-fits [] = accepted no-rule
+refusal-fits (rule ∷ later) = go (firstBad-finds (rule .holds) (rule .places)) (refusal-fits later)
+  where
+    more : {a : Answer} → HoldsBelow (rule .holds) (rule .places) → Fits later a → Fits (rule ∷ later) a
+    more all (accepted h) = accepted (one-more all h)
+    more all (refused h) = refused (further all h)
+
+    go : {o : Option ℕ} → Finds (rule .holds) (rule .places) o → Fits later (refusal later)
+        → Fits (rule ∷ later) (elim o [ none ↦ refusal later | some place ↦ Refused (rule .code) place ])
+    go (nowhere all) h = more all h
+    go (lowest inside below fails) h = refused (here inside below fails)
+
+all-hold-accepted : {rules : List Rule} → AllHold rules → refusal rules ≡ Accepted
+unfolding refusal
+all-hold-accepted no-rule = refl
+all-hold-accepted (one-more {rule = rule} all h) = rw (firstBad-none (rule .holds) (rule .places) all, refusal) (all-hold-accepted h)
+
+first-fault-refused : {rules : List Rule} {code place : ℕ} → FirstFault rules code place → refusal rules ≡ Refused code place
+unfolding refusal
+first-fault-refused (here {rule = rule} {place = place} inside below fails) =
+    rw (firstBad-some (rule .holds) (rule .places) place inside below fails, refusal)
+first-fault-refused (further {rule = rule} all h) = rw (firstBad-none (rule .holds) (rule .places) all, refusal) (first-fault-refused h)
+
+pub accepted-iff : (rules : List Rule) → (refusal rules ≡ Accepted) ↔ AllHold rules
+accepted-iff rules = ((λ e. go (subst (Fits rules) e (refusal-fits rules))), all-hold-accepted)
+  where
+    go : Fits rules Accepted → AllHold rules
+    go (accepted h) = h
+
+pub refused-iff : (rules : List Rule) (code place : ℕ) → (refusal rules ≡ Refused code place) ↔ FirstFault rules code place
+refused-iff rules code place = ((λ e. go (subst (Fits rules) e (refusal-fits rules))), first-fault-refused)
+  where
+    go : {code place : ℕ} → Fits rules (Refused code place) → FirstFault rules code place
+    go (refused h) = h
+
+-- ------------------------------------------------------------------------------------------------
+-- At most one answer fits
+
+pub first-fault-unique :
+    {rules : List Rule} {code place code′ place′ : ℕ} → FirstFault rules code place → FirstFault rules code′ place′ → (code ≡ code′) × (place ≡ place′)
+first-fault-unique f g = let p = first-fault-refused f in let q = first-fault-refused g in (cc, cc)
+
+pub all-hold-no-fault : {rules : List Rule} {code place : ℕ} → AllHold rules → FirstFault rules code place → ⊥
+all-hold-no-fault a f =
+    let p = all-hold-accepted a in
+    let q = first-fault-refused f in
+    let z : _≡_ {A = ℕ} 0 1 = cc in
+    omega arith
+
+-- ------------------------------------------------------------------------------------------------
+-- Rules that follow others
+
+pub first-holds : {rule : Rule} {later : List Rule} → AllHold (rule ∷ later) → HoldsBelow (rule .holds) (rule .places)
+first-holds (one-more all h) = all
+
+pub later-hold : {rule : Rule} {later : List Rule} → AllHold (rule ∷ later) → AllHold later
+later-hold (one-more all h) = h
+
+pub all-hold-append : (a b : List Rule) → AllHold (a ++ b) ↔ (AllHold a × AllHold b)
+all-hold-append a b = (split a, λ h. join (h .0) (h .1))
+  where
+    split : (a : List Rule) → AllHold (a ++ b) → AllHold a × AllHold b
+    split [] h = (no-rule, h)
+    split (rule ∷ a) (one-more all h) = let (p, q) = split a h in (one-more all p, q)
+
+    join : {a : List Rule} → AllHold a → AllHold b → AllHold (a ++ b)
+    join no-rule k = k
+    join (one-more all h) k = one-more all (join h k)

@@ -1,0 +1,4 @@
+pub mod EvaluationLaws
+pub mod Formed
+pub mod Slips
+pub mod StateLaws

@@ -1,0 +1,1 @@
+// The evaluation of expressions. Definitions and laws alone so far.

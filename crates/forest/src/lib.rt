@@ -1,0 +1,1 @@
+// How expressions and statements stand together. Definitions and laws alone so far.

@@ -1,0 +1,6 @@
+pub mod AccessKeeps
+pub mod AccessLaws
+pub mod HasLaws
+pub mod LogLaws
+pub mod LogRules
+pub mod Slips

@@ -1,0 +1,6 @@
+pub mod EvaluationKeeps
+pub mod PairLaws
+pub mod RunKeeps
+pub mod Slips
+pub mod StartKeeps
+pub mod StartLaws

@@ -1,0 +1,8 @@
+// The run of a table. Definitions and laws alone so far.
+
+// How a run ended: done, refused with its code and place, or stopped with its code at a statement.
+pub enum Ending {
+    Done,
+    Refused(u32, u32),
+    Stopped(u32, u32),
+}

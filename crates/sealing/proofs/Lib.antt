@@ -1,0 +1,2 @@
+pub mod CleanLaws
+pub mod SealLaws

@@ -1,0 +1,1 @@
+// The seal rules. Definitions and laws alone so far.

@@ -1,0 +1,1 @@
+// What a run shows of its sealed variables. Definitions and laws alone.

@@ -1,0 +1,1 @@
+// The type rules. Definitions and laws alone so far.
