@@ -1,8 +1,9 @@
 -- Cases that can't be, and what a test made of tests says of its parts. Assumes nothing.
-use mathlib.Core.Path.{_≡_, refl}
-use mathlib.Core.Bool.{Bool, true, false, _&&_, _||_, and-eq-true-iff}
+use mathlib.Core.Path.{_≡_, refl, sym, ap, _∙_}
+use mathlib.Core.Bool.{Bool, true, false, not, _&&_, _||_, and-eq-true-iff}
 use Prim.Native.Nat.{ℕ}
 use native.Mathlib.Omega.{arith}
+use borrow.Author.Tests.{not-true, not-false}
 
 -- `impossible (cc)` closes a case in which two constructors would be equal
 pub impossible {ℓ} : {X : Type ℓ} → _≡_ {A = ℕ} 0 1 → X
@@ -34,3 +35,20 @@ or-false-left false b h = refl
 pub or-false-right : (a b : Bool) → (a || b) ≡ false → b ≡ false
 or-false-right true b h = absurd (not-both refl h)
 or-false-right false b h = h
+
+-- ------------------------------------------------------------------------------------------------
+-- Tests that a function gave, after `if !test { return false; }`
+
+pub passed : {r t : Bool} → r ≡ t → not r ≡ false → t ≡ true
+passed e n = sym e ∙ not-false _ n
+
+pub failed : {r t : Bool} → r ≡ t → not r ≡ true → t ≡ false
+failed e n = sym e ∙ not-true _ n
+
+-- a first test that fails decides
+pub fails-here : {a : Bool} (b : Bool) → a ≡ false → false ≡ (a && b)
+fails-here b e = sym (ap (λ (t : Bool). t && b) e)
+
+-- after one that passes the others decide
+pub goes-on : {a b x : Bool} → a ≡ true → x ≡ b → x ≡ (a && b)
+goes-on {b = b} e d = d ∙ sym (ap (λ (t : Bool). t && b) e)

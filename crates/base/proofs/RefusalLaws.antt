@@ -10,7 +10,7 @@ use native.Mathlib.Nat.{not-suc-le-zero}
 use native.Mathlib.Decide.{decLt}
 use native.Mathlib.Omega.{arith}
 use Rattle.base.specs.Choice.{if_then_else_}
-use Rattle.base.specs.Refusals.{Rule, HoldsBelow, AllHold, no-rule, one-more, FirstFault, here, further, firstBad, refusal}
+use Rattle.base.specs.Refusals.{Rule, HoldsBelow, AllHold, no-rule, one-more, FirstFault, here, further, firstBad, refusal, whole}
 use Rattle.base.specs.declared.Answer.{Answer}
 use Rattle.base.specs.declared.Answer.the-variants.{Accepted, Refused}
 use Rattle.base.proofs.BoolLaws.{not-both}
@@ -105,6 +105,27 @@ refused-iff rules code place = ((λ e. go (subst (Fits rules) e (refusal-fits ru
   where
     go : {code place : ℕ} → Fits rules (Refused code place) → FirstFault rules code place
     go (refused h) = h
+
+-- ------------------------------------------------------------------------------------------------
+-- One rule alone, and a rule of the whole before others
+
+pub one-rule-refused :
+    (rule : Rule) (place : ℕ) → place < rule .places → HoldsBelow (rule .holds) place → rule .holds place ≡ false
+    → refusal (rule ∷ []) ≡ Refused (rule .code) place
+one-rule-refused rule place inside below fails = first-fault-refused (here inside below fails)
+
+pub one-rule-accepted : (rule : Rule) → HoldsBelow (rule .holds) (rule .places) → refusal (rule ∷ []) ≡ Accepted
+one-rule-accepted rule all = all-hold-accepted (one-more all no-rule)
+
+pub no-rules : refusal [] ≡ Accepted
+no-rules = all-hold-accepted no-rule
+
+pub whole-fails : (code : ℕ) (test : Bool) (later : List Rule) → test ≡ false → refusal (whole code test ∷ later) ≡ Refused code 0
+whole-fails code test later fails = first-fault-refused (here (omega arith) (λ i h. absurd (not-suc-le-zero h)) fails)
+
+pub whole-holds : (code : ℕ) (test : Bool) (later : List Rule) → test ≡ true → refusal (whole code test ∷ later) ≡ refusal later
+unfolding refusal
+whole-holds code test later holds = rw (firstBad-none (λ place. test) 1 (λ i h. holds), refusal)
 
 -- ------------------------------------------------------------------------------------------------
 -- At most one answer fits

@@ -1,5 +1,6 @@
 -- That no second answer fits a promise: what it means, and the promise that is an equation. Assumes nothing.
 use mathlib.Core.Path.{_≡_, sym, _∙_}
+use Rattle.base.proofs as base
 
 -- Post says of arguments, a result and what stands at exit that they fit; with the same of the others there is one result
 abbrev pub OneAnswer : {A R S : Type 0} → (A → R → S → Type 0) → Type 0
@@ -7,3 +8,6 @@ OneAnswer {A} {R} {S} Post = (a : A) (x y : R) (s : S) → Post a x s → Post a
 
 pub is-unique : {X : Type 0} {v x y : X} → x ≡ v → y ≡ v → x ≡ y
 is-unique p q = p ∙ sym q
+
+pub within-unique : OneAnswer (base.within.Reads.Post tt)
+within-unique a x y s = is-unique

@@ -1,29 +1,12 @@
--- Tests in a row, and what a good call is good for. Assumes nothing.
-use mathlib.Core.Path.{_≡_, refl, sym, ap, _∙_, subst}
-use mathlib.Core.Bool.{Bool, true, false, not, _&&_}
+-- What a good call is good for. Assumes nothing.
+use mathlib.Core.Path.{_≡_, refl, sym, subst}
+use mathlib.Core.Bool.{Bool, true, false, _&&_}
 use Prim.Native.Nat.{ℕ, _^_}
 use lib.Dec.{T, leb, ltb}
-use borrow.Author.Tests.{not-true, not-false, leb-true, ltb-true}
+use borrow.Author.Tests.{leb-true, ltb-true}
 use Rattle.word.specs.Words.{AreWords}
 use Rattle.base.specs.Choice.{within}
 use Rattle.bil.specs.WordCalls.{good}
-
--- ------------------------------------------------------------------------------------------------
--- Tests that a function gave, after `if !test { return false; }`
-
-pub passed : {r t : Bool} → r ≡ t → not r ≡ false → t ≡ true
-passed e n = sym e ∙ not-false _ n
-
-pub failed : {r t : Bool} → r ≡ t → not r ≡ true → t ≡ false
-failed e n = sym e ∙ not-true _ n
-
--- a first test that fails decides
-pub fails-here : {a : Bool} (b : Bool) → a ≡ false → false ≡ (a && b)
-fails-here b e = sym (ap (λ (t : Bool). t && b) e)
-
--- after one that passes the others decide
-pub goes-on : {a b x : Bool} → a ≡ true → x ≡ b → x ≡ (a && b)
-goes-on {b = b} e d = d ∙ sym (ap (λ (t : Bool). t && b) e)
 
 both : (a b : Bool) → (a && b) ≡ true → (a ≡ true) × (b ≡ true)
 both true b e = (refl, e)

@@ -2,16 +2,9 @@
 //
 // Every function takes every number that can be passed to it and asks nothing of its caller.
 ghost use mathlib.Core.Path.{_≡_};
-ghost use Rattle.base.specs.Choice.{within};
 ghost use Rattle.bil.specs.WordCalls as WordCalls;
+use base::within;
 use word::Computed;
-
-// Whether n is from least to most.
-fn within(least: u32, most: u32, n: u32) -> bool
-    ensures { λ r. ⌜ r ≡ within least most n ⌝ }
-{
-    least <= n && n <= most
-}
 
 // Whether there is such a sub and such a width, and both words fit it.
 fn good(sub: u32, width: u32, a: u64, b: u64) -> bool

@@ -9,9 +9,10 @@ use Rattle.base.proofs.RefusalLaws.{accepted-iff, refused-iff, all-hold-append}
 use Rattle.table.specs.Bytes.{header}
 use Rattle.table.specs.Records.{headerRules, recordRules}
 use Rattle.table.specs.Decode.{context, program}
-use Rattle.table.proofs.View.{RecordsHold, Reads}
+use Rattle.table.specs.Records.{RecordsHold}
+use Rattle.table.proofs.View.{Reads}
 use Rattle.table.proofs.RecordLaws.{records-hold-iff}
-use Rattle.table.proofs.Expressions.{expr-view}
+use Rattle.table.proofs.ExpressionLaws.{expr-view}
 use Rattle.table.proofs.Program.{program-reads}
 use Rattle.forest.specs.Forest.{forestRules}
 use Rattle.typing.specs.Typing.{TypingHolds}

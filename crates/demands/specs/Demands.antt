@@ -4,7 +4,6 @@ use mathlib.Core.Path.{_≡_}
 use mathlib.Core.Bool.{Bool}
 use mathlib.Core.List.{List, _++_}
 use mathlib.Core.Logic.{_↔_}
-use mathlib.Core.Option.{some}
 use Prim.Native.Nat.{ℕ, _<_}
 use Rattle.base.specs.declared.Answer.{Answer}
 use Rattle.base.specs.declared.Answer.the-variants.{Accepted, Refused}
@@ -15,6 +14,7 @@ use Rattle.table.specs.Records.{headerRules, recordRules}
 use Rattle.table.specs.Decode.{Context, context}
 use Rattle.table.specs.Syntax.{Expr}
 use Rattle.forest.specs.Forest.{forestRules}
+use Rattle.typing.specs.declared.Typed.the-variants.{Of}
 use Rattle.typing.specs.Typing.{_⊢_∶_, TypingHolds}
 use Rattle.typing.specs.Verdict.{infer, checkRules, check}
 use Rattle.sealing.specs.Sealing.{Seals, SealHolds}
@@ -72,7 +72,7 @@ pub record Demand2 (entry : Entries) : Type 0 where
 
 -- where a verdict names a place it goes by `infer` and `sealed`: they say what the rules say of each expression
 pub record Decided : Type 0 where
-  pub types : (Γ : Context) (e : Expr) (t : ValueType) → (infer Γ e ≡ some t) ↔ (Γ ⊢ e ∶ t)
+  pub types : (Γ : Context) (e : Expr) (t : ValueType) → (infer Γ e ≡ Of t) ↔ (Γ ⊢ e ∶ t)
   pub one-type : (Γ : Context) (e : Expr) (t u : ValueType) → Γ ⊢ e ∶ t → Γ ⊢ e ∶ u → t ≡ u
   pub labels : (Γ : Context) (e : Expr) (l : Bool) → Seals Γ e l → l ≡ sealed Γ e
 

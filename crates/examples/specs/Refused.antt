@@ -4,7 +4,8 @@ use mathlib.Core.List.{List, [], _∷_, _++_, map}
 use Prim.Native.Nat.{ℕ, zero, suc, pred}
 use lib.ListN.{length, set, take, replicate}
 use Rattle.base.specs.Refusals.{codeOf, placeOf}
-use Rattle.table.specs.Bytes.{Variable, Node}
+use Rattle.table.specs.declared.Variable.{Variable}
+use Rattle.table.specs.declared.Node.{Node}
 use Rattle.table.proofs.Assembler.{assembled, immediate, memory, sealed, asLet, node}
 use Rattle.table.proofs.Assembler.{var, word, load, store, binary, unary, cast, lets, ite, extract, concat}
 use Rattle.table.proofs.Assembler.{move, jmp, cpuexn, while, if}

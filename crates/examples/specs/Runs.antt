@@ -5,7 +5,7 @@ use Prim.Native.Nat.{ℕ, zero, suc}
 use lib.ListN.{replicate}
 use Rattle.base.specs.Refusals as Answers
 use Rattle.word.specs.Words.{signed, wordOf}
-use Rattle.table.specs.Bytes.{Node}
+use Rattle.table.specs.declared.Node.{Node}
 use Rattle.table.proofs.Assembler.{assembled, immediate, memory, asLet}
 use Rattle.table.proofs.Assembler.{var, word, load, store, binary, unary, cast, lets, unknown, ite, extract, concat}
 use Rattle.table.proofs.Assembler.{move, jmp, cpuexn, special, while, if}

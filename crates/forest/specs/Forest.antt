@@ -92,12 +92,23 @@ inScope s i =
     let r = expression s i in
     if eqb (r .op) 1 && isLet (variable s (r .a)) then inBodyOf s (r .a) i else (if eqb (r .op) 8 then not (inBodyOf s (r .a) i) else true)
 
+unfoldable pub useRule : List ℕ → Rule
+unfolding howOften uses header
+useRule s = record { code = 8; places = header s .expressions; holds = λ i. eqb (howOften i (uses s)) 1 }
+
+unfoldable pub depthRule : List ℕ → Rule
+unfolding depths header
+depthRule s =
+    record { code = 9; places = header s .expressions; holds = λ i. leb (getD (depths s (header s .expressions)) i 0) mostDepth }
+
+unfoldable pub nestingRule : List ℕ → Rule
+unfolding nesting header
+nestingRule s = record { code = 10; places = header s .statements; holds = λ i. leb (nesting s i) mostNesting }
+
+unfoldable pub scopeRule : List ℕ → Rule
+unfolding inScope header
+scopeRule s = record { code = 11; places = header s .expressions; holds = inScope s }
+
 unfoldable pub forestRules : List ℕ → List Rule
-unfolding howOften uses depths nesting inScope header
-forestRules s =
-    let h = header s in
-    record { code = 8; places = h .expressions; holds = λ i. eqb (howOften i (uses s)) 1 }
-    ∷ record { code = 9; places = h .expressions; holds = λ i. leb (getD (depths s (h .expressions)) i 0) mostDepth }
-    ∷ record { code = 10; places = h .statements; holds = λ i. leb (nesting s i) mostNesting }
-    ∷ record { code = 11; places = h .expressions; holds = inScope s }
-    ∷ []
+unfolding useRule depthRule nestingRule scopeRule
+forestRules s = useRule s ∷ depthRule s ∷ nestingRule s ∷ scopeRule s ∷ []

@@ -14,7 +14,8 @@ use Rattle.value.specs.declared.ValueType.the-variants.{Imm, Mem}
 use Rattle.value.specs.declared.Value.{Value}
 use Rattle.value.specs.declared.Value.the-variants.{Word, Unknown, Memory}
 use Rattle.value.specs.Values.{TypeOk}
-use Rattle.table.specs.Bytes.{header, Variable, variable}
+use Rattle.table.specs.declared.Variable.{Variable}
+use Rattle.table.specs.Bytes.{header, variable}
 use Rattle.base.specs.Choice.{within}
 use Rattle.table.specs.Records.{variableOk}
 use Rattle.table.specs.Decode.{context, declaredType}

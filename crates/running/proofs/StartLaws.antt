@@ -9,7 +9,8 @@ use borrow.Author.Tests.{eqb-true, ltb-true, ltb-false}
 use Rattle.base.specs.Refusals.{AllHold}
 use Rattle.base.proofs.RefusalLaws.{accepted-iff, all-hold-append, first-holds, later-hold}
 use Rattle.value.specs.declared.ValueType.{ValueType}
-use Rattle.table.specs.Bytes.{header, Variable, variable}
+use Rattle.table.specs.declared.Variable.{Variable}
+use Rattle.table.specs.Bytes.{header, variable}
 use Rattle.typing.specs.Verdict.{checkRules}
 use Rattle.memory.specs.Log.{Log}
 use Rattle.memory.specs.Access.{headOf}

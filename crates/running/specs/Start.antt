@@ -6,7 +6,8 @@ use lib.Dec.{leb, ltb, eqb}
 use lib.ListN.{length, getD}
 use Rattle.base.specs.Choice.{within}
 use Rattle.base.specs.Refusals.{Rule}
-use Rattle.table.specs.Bytes.{header, Variable, variable}
+use Rattle.table.specs.declared.Variable.{Variable}
+use Rattle.table.specs.Bytes.{header, variable}
 use Rattle.memory.specs.Log.{Log, entrySize, entries, newestOk, widthAt}
 
 pub record Start : Type 0 where

@@ -5,7 +5,8 @@ use Prim.Native.Nat.{ℕ}
 use Rattle.base.specs.Numbered.{numbered}
 use Rattle.base.specs.Refusals.{Rule, refusal}
 use Rattle.base.specs.declared.Answer.{Answer}
-use Rattle.table.specs.Bytes.{header, Node, expression, statement}
+use Rattle.table.specs.declared.Node.{Node}
+use Rattle.table.specs.Bytes.{header, expression, statement}
 use Rattle.table.specs.Decode.{Context, context, expr}
 use Rattle.table.specs.Syntax as S
 use Rattle.table.specs.Syntax.{Expr}

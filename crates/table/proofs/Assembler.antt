@@ -2,7 +2,9 @@
 use mathlib.Core.List.{List, [], _∷_, _++_, flatMap}
 use Prim.Native.Nat.{ℕ, _+_, _*_, _/_, _%_, _^_}
 use lib.ListN.{length}
-use Rattle.table.specs.Bytes.{Header, Variable, Node}
+use Rattle.table.specs.declared.Header.{Header}
+use Rattle.table.specs.declared.Variable.{Variable}
+use Rattle.table.specs.declared.Node.{Node}
 
 -- ------------------------------------------------------------------------------------------------
 -- Bytes: "Numbers are little-endian"

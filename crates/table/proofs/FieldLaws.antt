@@ -11,7 +11,9 @@ use Rattle.base.proofs.BoolLaws.{not-both, and-left, and-right, or-cases}
 use Rattle.word.specs.Words.{Width}
 use Rattle.value.specs.declared.ValueType.the-variants.{Imm, Mem}
 use Rattle.value.specs.Values.{TypeOk}
-use Rattle.table.specs.Bytes.{header, Node, Variable, variable}
+use Rattle.table.specs.declared.Node.{Node}
+use Rattle.table.specs.declared.Variable.{Variable}
+use Rattle.table.specs.Bytes.{header, variable}
 use Rattle.table.specs.Fields as F
 use Rattle.table.specs.Fields.{Row, noRow}
 use Rattle.table.specs.Records.{fieldOk, variableOk, recordOk}

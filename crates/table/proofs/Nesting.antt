@@ -14,24 +14,28 @@ use Rattle.base.proofs.BoolLaws.{and-right}
 use Rattle.table.specs.Bytes.{header, statement}
 use Rattle.table.specs.Fields.{statementRow}
 use Rattle.table.specs.Records.{recordOk, firstEnd, secondEnd, endsAround, blockEnd}
-use Rattle.table.proofs.View.{RecordsHold}
+use Rattle.table.specs.Records.{RecordsHold}
 
 -- ------------------------------------------------------------------------------------------------
 -- The end of the innermost body around statement i, of the bodies of statements below j
 
-endBelow : List ℕ → ℕ → ℕ → ℕ
+pub endBelow : List ℕ → ℕ → ℕ → ℕ
 endBelow s i j = elim (endsAround s i j) [ [] ↦ header s .statements | e ∷ outer ↦ e ]
 
-block-end-is : (s : List ℕ) (i : ℕ) → blockEnd s i ≡ endBelow s i i
+pub block-end-is : (s : List ℕ) (i : ℕ) → blockEnd s i ≡ endBelow s i i
 unfolding blockEnd endBelow
 block-end-is s i = refl
 
-first-le-second : (s : List ℕ) (j : ℕ) → firstEnd s j ≤ secondEnd s j
+pub end-outermost : (s : List ℕ) (i : ℕ) → endBelow s i 0 ≡ header s .statements
+unfolding endBelow endsAround
+end-outermost s i = refl
+
+pub first-le-second : (s : List ℕ) (j : ℕ) → firstEnd s j ≤ secondEnd s j
 unfolding secondEnd
 first-le-second s j = omega arith
 
 -- statement i stands in the first or the second body of statement j, or in none of the two
-data Around (s : List ℕ) (i j : ℕ) : ℕ → Type 0 where
+pub data Around (s : List ℕ) (i j : ℕ) : ℕ → Type 0 where
   in-first : i < firstEnd s j → Around s i j (firstEnd s j)
   in-second : firstEnd s j ≤ i → i < secondEnd s j → Around s i j (secondEnd s j)
   in-neither : secondEnd s j ≤ i → Around s i j (endBelow s i j)
@@ -42,7 +46,7 @@ endBy s i j t u =
     let outer = endsAround s i j in
     elim (if t then firstEnd s j ∷ outer else (if u then secondEnd s j ∷ outer else outer)) [ [] ↦ header s .statements | e ∷ outer ↦ e ]
 
-around : (s : List ℕ) (i j : ℕ) → Around s i j (endBelow s i (suc j))
+pub around : (s : List ℕ) (i j : ℕ) → Around s i j (endBelow s i (suc j))
 unfolding endBelow endsAround endBy
 around s i j = go (ltb i (firstEnd s j)) refl (ltb i (secondEnd s j)) refl
   where
@@ -89,7 +93,7 @@ pub record IsBlock (s : List ℕ) (n l : ℕ) : Type 0 where
   pub ends : 0 < l → blockEnd s n ≡ n + l
 
 -- "they end inside the block around them"
-bodies-inside : {s : List ℕ} → RecordsHold s → (j : ℕ) → j < header s .statements → secondEnd s j ≤ endBelow s j j
+pub bodies-inside : {s : List ℕ} → RecordsHold s → (j : ℕ) → j < header s .statements → secondEnd s j ≤ endBelow s j j
 bodies-inside {s} holds j h =
     rw (block-end-is s j) at
     (leb-true (secondEnd s j) (blockEnd s j)

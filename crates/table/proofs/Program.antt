@@ -16,7 +16,8 @@ use Rattle.table.specs.Records.{fieldOk}
 use Rattle.table.specs.Decode.{expr, starters, startingAt, blocks, program}
 use Rattle.table.specs.Syntax as S
 use Rattle.table.specs.Syntax.{Block}
-use Rattle.table.proofs.View.{RecordsHold, Reads, r-end, r-move, r-jmp, r-cpuexn, r-special, r-while, r-if}
+use Rattle.table.specs.Records.{RecordsHold}
+use Rattle.table.proofs.View.{Reads, r-end, r-move, r-jmp, r-cpuexn, r-special, r-while, r-if}
 use Rattle.table.proofs.FieldLaws.{FieldsHold, fields-hold, no-row, operand-field, state-field}
 use Rattle.table.proofs.Nesting.{IsBlock, Parts, parts-by-op, whole-block}
 

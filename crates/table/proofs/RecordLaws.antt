@@ -5,13 +5,13 @@ use Prim.Native.Nat.{ℕ, _<_}
 use Rattle.base.specs.Refusals.{AllHold, no-rule, one-more}
 use Rattle.value.specs.Values.{TypeOk}
 use Rattle.table.specs.Bytes.{header, variable}
-use Rattle.table.specs.Records.{recordRules}
+use Rattle.table.specs.Records.{variableRule, expressionRule, statementRule, recordRules}
 use Rattle.table.specs.Decode.{context}
-use Rattle.table.proofs.View.{RecordsHold}
+use Rattle.table.specs.Records.{RecordsHold}
 use Rattle.table.proofs.FieldLaws.{declared-type-ok}
 
 pub records-hold-iff : (s : List ℕ) → AllHold (recordRules s) ↔ RecordsHold s
-unfolding recordRules
+unfolding recordRules variableRule expressionRule statementRule
 records-hold-iff s = (to, λ h. one-more (h .variables) (one-more (h .expressions) (one-more (h .statements) no-rule)))
   where
     to : AllHold (recordRules s) → RecordsHold s

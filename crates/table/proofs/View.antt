@@ -1,26 +1,16 @@
 -- A table whose records hold, seen as syntax: each expression by its op, with its operands' numbers, and each block by its
 -- statements. Assumes nothing.
 use mathlib.Core.Path.{_≡_}
-use mathlib.Core.Bool.{true, _&&_}
 use mathlib.Core.List.{List}
 use Prim.Native.Nat.{ℕ, suc, _+_, _-_, _%_, _≤_, _<_}
-use lib.Dec.{leb, eqb}
+use lib.Dec.{eqb}
 use Rattle.word.specs.Words.{Width, IsWord}
 use Rattle.value.specs.Values.{TypeOk}
 use Rattle.table.specs.Bytes.{header, variable, expression, statement}
-use Rattle.table.specs.Fields.{expressionRow, statementRow, wordValue}
-use Rattle.table.specs.Records.{variableOk, recordOk, secondEnd, blockEnd}
+use Rattle.table.specs.Fields.{wordValue}
 use Rattle.table.specs.Decode.{expr, unknownType}
 use Rattle.table.specs.Syntax as S
 use Rattle.table.specs.Syntax.{Expr, Block}
-
--- what refusals 5 to 7 leave
-pub record RecordsHold (s : List ℕ) : Type 0 where
-  pub variables : (i : ℕ) → i < header s .variables → variableOk (variable s i) ≡ true
-  pub expressions : (i : ℕ) → i < header s .expressions → recordOk s i (expressionRow (expression s i)) (expression s i) ≡ true
-  pub statements :
-      (i : ℕ) → i < header s .statements
-      → (recordOk s (header s .expressions) (statementRow (statement s i)) (statement s i) && leb (secondEnd s i) (blockEnd s i)) ≡ true
 
 -- "Sizes are the multiples of 8 from 8 to 64."
 pub record SizeOk (z : ℕ) : Type 0 where

@@ -2,6 +2,9 @@
 use mathlib.Core.List.{List}
 use Prim.Native.Nat.{ℕ, zero, suc, _+_, _*_}
 use lib.ListN.{getD}
+use Rattle.table.specs.declared.Header.{Header}
+use Rattle.table.specs.declared.Variable.{Variable}
+use Rattle.table.specs.declared.Node.{Node}
 
 -- "Numbers are little-endian": n bytes from a place on
 unfoldable pub number : ℕ → List ℕ → ℕ → ℕ
@@ -10,17 +13,6 @@ number (suc n) s at = getD s at 0 + 256 * number n s (at + 1)
 
 -- ------------------------------------------------------------------------------------------------
 -- "The header is 32 bytes of counts and offsets": format and A of 2 bytes, then seven numbers of 4
-
-pub record Header : Type 0 where
-  pub format : ℕ
-  pub width : ℕ  -- address width A
-  pub variables : ℕ  -- V
-  pub variablesAt : ℕ
-  pub expressions : ℕ  -- E
-  pub expressionsAt : ℕ
-  pub statements : ℕ  -- S
-  pub statementsAt : ℕ
-  pub total : ℕ
 
 unfoldable pub header : List ℕ → Header
 unfolding number
@@ -52,25 +44,8 @@ statementsFrom h = expressionsFrom h + 16 * h .expressions
 abbrev pub end : Header → ℕ
 end h = statementsFrom h + 16 * h .statements
 
--- a variable's 8 bytes, "Its number is its name."
-pub record Variable : Type 0 where
-  pub kind : ℕ  -- 1 immediate, 2 memory
-  pub label : ℕ  -- 0 open, 1 sealed
-  pub width : ℕ
-  pub addressWidth : ℕ
-  pub role : ℕ  -- 0 state, 1 let
-  pub spare : ℕ  -- the last three bytes as one number
-
--- an expression's or a statement's 16 bytes: four of a byte, three of 4; a statement's sub, p and q are its "three zeros"
-pub record Node : Type 0 where
-  pub op : ℕ
-  pub sub : ℕ
-  pub p : ℕ
-  pub q : ℕ
-  pub a : ℕ
-  pub b : ℕ
-  pub c : ℕ
-
+-- A variable's 8 bytes, "Its number is its name."; an expression's or a statement's 16: four of a byte, three of 4, where a statement's
+-- sub, p and q are its "three zeros". The records are src/lib.rt's structs.
 unfoldable pub variableAt : List ℕ → ℕ → Variable
 unfolding number
 variableAt s at =

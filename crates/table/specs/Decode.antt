@@ -9,7 +9,9 @@ use Rattle.base.specs.Course.{upTo}
 use Rattle.base.specs.Numbered.{numbered}
 use Rattle.value.specs.declared.ValueType.{ValueType}
 use Rattle.value.specs.declared.ValueType.the-variants.{Imm, Mem}
-use Rattle.table.specs.Bytes.{header, Variable, Node, variable, expression, statement}
+use Rattle.table.specs.declared.Variable.{Variable}
+use Rattle.table.specs.declared.Node.{Node}
+use Rattle.table.specs.Bytes.{header, variable, expression, statement}
 use Rattle.table.specs.Fields.{wordValue}
 use Rattle.table.specs.Syntax as S
 use Rattle.table.specs.Syntax.{Expr, Block}

@@ -5,7 +5,7 @@ use Prim.Native.Nat.{ℕ, _+_, _*_, _^_}
 use lib.Dec.{leb, ltb, eqb}
 use Rattle.base.specs.Choice.{if_then_else_}
 use Rattle.base.specs.Numbered.{numbered}
-use Rattle.table.specs.Bytes.{Node}
+use Rattle.table.specs.declared.Node.{Node}
 
 -- what a field holds
 pub data Field : Type 0 where

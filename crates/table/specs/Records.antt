@@ -1,12 +1,16 @@
 -- What the header and each record must be: refusals 1 to 7. Assumes nothing.
+use mathlib.Core.Path.{_≡_}
 use mathlib.Core.Bool.{Bool, true, _&&_, _||_}
 use mathlib.Core.List.{List, [], _∷_}
-use Prim.Native.Nat.{ℕ, zero, suc, _+_, _%_}
+use Prim.Native.Nat.{ℕ, zero, suc, _+_, _%_, _≤_, _<_}
 use lib.Dec.{leb, ltb, eqb}
 use lib.ListN.{length}
 use Rattle.base.specs.Choice.{if_then_else_, within}
 use Rattle.base.specs.Refusals.{Rule, whole}
-use Rattle.table.specs.Bytes.{header, variablesFrom, expressionsFrom, statementsFrom, end, Variable, Node, variable, expression, statement}
+use Rattle.table.specs.declared.Variable.{Variable}
+use Rattle.table.specs.declared.Node.{Node}
+use Rattle.table.specs.declared.Header.{Header}
+use Rattle.table.specs.Bytes.{header, variablesFrom, expressionsFrom, statementsFrom, end, variable, expression, statement}
 use Rattle.table.specs.Fields as F
 use Rattle.table.specs.Fields.{Field, Row, expressionRow, statementRow}
 
@@ -34,6 +38,15 @@ headerRules s =
     && (eqb (h .expressionsAt) (expressionsFrom h)
     && (eqb (h .statementsAt) (statementsFrom h) && (eqb (h .total) (end h) && eqb (length s) (end h)))))
     ∷ []
+
+-- what refusals 1 to 4 leave: a header that is the table's, sections that fill it, and counts within their limits
+pub record Framed (s : List ℕ) (h : Header) : Type 0 where
+  pub is : h ≡ header s
+  pub whole : length s ≡ end h
+  pub variables : h .variables ≤ mostVariables
+  pub expressions : h .expressions ≤ mostExpressions
+  pub statements : h .statements ≤ mostStatements
+  pub some : 1 ≤ h .statements
 
 -- ------------------------------------------------------------------------------------------------
 -- The records: 5 to 7
@@ -92,16 +105,34 @@ unfoldable pub blockEnd : List ℕ → ℕ → ℕ
 unfolding endsAround header
 blockEnd s i = elim (endsAround s i i) [ [] ↦ header s .statements | e ∷ outer ↦ e ]
 
-unfoldable pub recordRules : List ℕ → List Rule
-unfolding variableOk recordOk expressionRow statementRow secondEnd blockEnd variable expression statement header
-recordRules s =
-    let h = header s in
-    record { code = 5; places = h .variables; holds = λ i. variableOk (variable s i) }
-    ∷ record { code = 6; places = h .expressions; holds = λ i. recordOk s i (expressionRow (expression s i)) (expression s i) }
-    ∷ record {
+unfoldable pub variableRule : List ℕ → Rule
+unfolding variableOk variable header
+variableRule s = record { code = 5; places = header s .variables; holds = λ i. variableOk (variable s i) }
+
+unfoldable pub expressionRule : List ℕ → Rule
+unfolding recordOk expressionRow expression header
+expressionRule s =
+    record { code = 6; places = header s .expressions; holds = λ i. recordOk s i (expressionRow (expression s i)) (expression s i) }
+
+-- "they end inside the block around them"
+unfoldable pub statementRule : List ℕ → Rule
+unfolding recordOk statementRow secondEnd blockEnd statement header
+statementRule s =
+    record {
       code = 7;
-      places = h .statements;
-      -- "they end inside the block around them"
-      holds = λ i. recordOk s (h .expressions) (statementRow (statement s i)) (statement s i) && leb (secondEnd s i) (blockEnd s i);
+      places = header s .statements;
+      holds = λ i.
+          recordOk s (header s .expressions) (statementRow (statement s i)) (statement s i) && leb (secondEnd s i) (blockEnd s i);
     }
-    ∷ []
+
+unfoldable pub recordRules : List ℕ → List Rule
+unfolding variableRule expressionRule statementRule
+recordRules s = variableRule s ∷ expressionRule s ∷ statementRule s ∷ []
+
+-- what refusals 5 to 7 leave
+pub record RecordsHold (s : List ℕ) : Type 0 where
+  pub variables : (i : ℕ) → i < header s .variables → variableOk (variable s i) ≡ true
+  pub expressions : (i : ℕ) → i < header s .expressions → recordOk s i (expressionRow (expression s i)) (expression s i) ≡ true
+  pub statements :
+      (i : ℕ) → i < header s .statements
+      → (recordOk s (header s .expressions) (statementRow (statement s i)) (statement s i) && leb (secondEnd s i) (blockEnd s i)) ≡ true

@@ -1,2 +1,3 @@
+pub mod ByOp
 pub mod Typing
 pub mod Verdict

@@ -9,8 +9,11 @@ use Rattle.value.proofs as value
 yields-unique : {t : ValueType} {v x y : Value} → Yields t v x → Yields t v y → x ≡ y
 yields-unique p q = is-unique (p .is) (q .is)
 
-pub types-unique : OneAnswer (value.ValueType.size.Reads.Post tt) × OneAnswer (value.Value.type_of.Reads.Post tt)
-types-unique = (λ a x y s. is-unique, λ a x y s. is-unique)
+pub types-unique :
+    OneAnswer (value.binary_width.Reads.Post tt)
+    × OneAnswer (value.ValueType.size.Reads.Post tt)
+    × OneAnswer (value.Value.type_of.Reads.Post tt)
+types-unique = (λ a x y s. is-unique, λ a x y s. is-unique, λ a x y s. is-unique)
 
 pub operations-unique :
     OneAnswer (value.Value.binary.Reads.Post tt)

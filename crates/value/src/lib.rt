@@ -38,7 +38,7 @@ fn computed(w: u32, c: Computed) -> Value
 }
 
 // The bits of what a binary operation gives: one for a comparison, else those of its operands.
-fn binary_width(sub: u32, w: u32) -> u32
+pub fn binary_width(sub: u32, w: u32) -> u32
     ensures { λ r. ⌜ r ≡ Subs.binaryWidth sub w ⌝ }
 {
     if sub <= word::subs::ASR { w } else { 1 }

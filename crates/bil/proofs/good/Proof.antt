@@ -1,6 +1,6 @@
 -- `bil::good`: the first test that fails decides, and the last one where none does. Assumes nothing.
 use borrow.Author.Needs.{needs}
-use Rattle.bil.proofs.TestLaws.{passed, failed, fails-here, goes-on}
+use Rattle.base.proofs.BoolLaws.{passed, failed, fails-here, goes-on}
 use Rattle.bil.proofs.good.Statement.{statement}
 use Rattle.bil.proofs.good.Tie as tie
 

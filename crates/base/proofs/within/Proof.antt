@@ -1,7 +1,7 @@
--- `bil::within`: by the first test. Assumes nothing.
+-- `base::within`: by the first test. Assumes nothing.
 use borrow.Author.Tests.{le-leb, lt-leb}
-use Rattle.bil.proofs.within.Statement.{statement}
-use Rattle.bil.proofs.within.Tie as tie
+use Rattle.base.proofs.within.Statement.{statement}
+use Rattle.base.proofs.within.Tie as tie
 
 returns : tie.Need-returns
 returns c = simp (le-leb _ _ (c .if1 .taken))

@@ -17,7 +17,8 @@ use Rattle.table.specs.Fields.{Row, noRow, expressionRows, expressionRow
 use Rattle.table.specs.Records.{fieldOk}
 use Rattle.table.specs.Decode.{readers, assemble, exprs, expr}
 use Rattle.table.specs.Syntax as S
-use Rattle.table.proofs.View.{RecordsHold, View}
+use Rattle.table.specs.Records.{RecordsHold}
+use Rattle.table.proofs.View.{View}
 use Rattle.table.proofs.View.{v-var, v-word, v-load, v-store, v-binary, v-unary, v-cast, v-let, v-unknown, v-ite, v-extract, v-concat}
 use Rattle.table.proofs.FieldLaws.{FieldsHold, fields-hold, no-row}
 use Rattle.table.proofs.FieldLaws.{operand-field, variable-field, let-field, least-field, most-field, size-field, width-field, unknown-type-ok}
