@@ -1,4 +1,5 @@
 -- `framing::counts_ok`: the first test that fails decides, and the last one where none does. Assumes nothing.
+use native.Mathlib.Omega.{arith}
 use borrow.Author.Needs.{needs}
 use borrow.Author.Tests.{le-leb, lt-leb}
 use Rattle.base.proofs.BoolLaws.{fails-here, goes-on}
@@ -6,7 +7,7 @@ use Rattle.table.proofs.framing.counts_ok.Statement.{statement}
 use Rattle.table.proofs.framing.counts_ok.Tie as tie
 
 returns : tie.Need-returns
-returns c = fails-here _ (lt-leb _ _ (c .if1 .taken))
+returns c = fails-here _ (lt-leb (c .before .before .args .h .variables) 256 (omega (arith, c .if1 .taken)))
 
 returns-2 : tie.Need-returns-2
 returns-2 c = goes-on (le-leb _ _ (c .before .before .if1 .left)) (fails-here _ (lt-leb _ _ (c .if2 .taken)))

@@ -8,6 +8,14 @@ use Rattle.word.proofs.FitLaws.{gives-too}
 use Rattle.word.proofs.arithmetic.times.Statement.{statement}
 use Rattle.word.proofs.arithmetic.times.Tie as tie
 
+returns : tie.Need-returns
+returns c =
+    let s = c .before .before .before in
+    let cross = c .before .before .wrapping-add-u64 in
+    let sum = c .before .wrapping-add-u642 in
+    gives-too (c .trim .ensures)
+    (times-cut (s .args .w) (s .args .a) (s .args .b) (cross .result) (sum .result) (s .pre .width .most) (cross .ensures) (sum .ensures))
+
 mul-upper-a : tie.Need-mul-wrapping-add-u64
 mul-upper-a c = product-fits (shr-lt 32 32 (c .fits .a .fits)) (mask-lt (c .args .b) 32)
 
@@ -16,14 +24,6 @@ mul-upper-b c = product-fits (mask-lt (c .args .a) 32) (shr-lt 32 32 (c .fits .b
 
 mul-lower : tie.Need-mul-wrapping-add-u64-3
 mul-lower c = product-fits (mask-lt (c .before .args .a) 32) (mask-lt (c .before .args .b) 32)
-
-returns : tie.Need-returns
-returns c =
-    let s = c .before .before .before in
-    let cross = c .before .before .wrapping-add-u64 in
-    let sum = c .before .wrapping-add-u642 in
-    gives-too (c .trim .ensures)
-    (times-cut (s .args .w) (s .args .a) (s .args .b) (cross .result) (sum .result) (s .pre .width .most) (cross .ensures) (sum .ensures))
 
 pub times-spec : {M : Type 1} → statement M
 times-spec =
