@@ -1,25 +1,28 @@
 /*
- * bil.h: the word operations of BIL, from the proved library libbil.a.
+ * bil.h: the word operations of BIL and the verdicts of its tables, from the proved library libbil.a.
  *
  * `rt staticlib bil` writes target/staticlib/libbil.a, an archive for x86-64 Linux in the C calling form. To use it:
  *
  *     gcc -Iinclude program.c target/staticlib/libbil.a
  *
- * A word is a number below 2^width, of 1 to 64 bits. An operation takes the number of the operation, the width of both
- * operands, and the operands. One function gives the kind of the answer, another its value.
- *
- * Every argument may be any number: bad ones are answered by BIL_BAD. The functions keep no state, read and write no
- * memory of the caller and always return the same answer to the same arguments, so any number of threads may call them
- * at once.
+ * The functions keep no state, write no memory of the caller and always return the same answer to the same arguments,
+ * so any number of threads may call them at once. None of them allocates.
  */
 #ifndef BIL_H
 #define BIL_H
 
+#include <stddef.h>
 #include <stdint.h>
 
 #ifdef __cplusplus
 extern "C" {
 #endif
+
+/*
+ * Words. A word is a number below 2^width, of 1 to 64 bits. An operation takes the number of the operation, the width
+ * of both operands, and the operands. One function gives the kind of the answer, another its value. Every argument may
+ * be any number: bad ones are answered by BIL_BAD.
+ */
 
 /*
  * The binary operations, `a` the left operand and `b` the right one. The signed operations read both operands in two's
@@ -59,6 +62,44 @@ uint32_t bil_word_kind(uint32_t sub, uint32_t width, uint64_t a, uint64_t b);
 
 /* The word where the kind for the same arguments is BIL_WORD, and 0 where it is not. */
 uint64_t bil_word_value(uint32_t sub, uint32_t width, uint64_t a, uint64_t b);
+
+/*
+ * Verdicts. A table is a run of bytes that the caller owns and lends for the length of a call: the library reads
+ * table[0] to table[length - 1] and nothing else, writes none of them and keeps no pointer to them. The bytes may be
+ * anything and need no alignment, and a table may have any length that C can lend, at most PTRDIFF_MAX: no bytes, half
+ * a table, a header that claims 4 GB. The caller sees to it that `length` bytes are there and that no one writes them
+ * during the call. `table` may be NULL where `length` is 0, and nowhere else.
+ *
+ * A code says what is wrong first, and a place says where. Codes come in the order of their numbers and, within a code,
+ * the lowest place first. Records count from 0. Each function works its answer out anew, so a caller saves work that
+ * asks for a place only where the code is not 0.
+ */
+enum bil_code {
+    BIL_ACCEPTED = 0,       /* accepted and, from the seal check, clean */
+    BIL_SHORT = 1,          /* under 32 bytes */
+    BIL_FORMAT = 2,         /* a format that is not 1, or an address width that is not 1 to 64 */
+    BIL_COUNT = 3,          /* over 256 variables or 2,048 expressions, or not 1 to 1,024 statements */
+    BIL_LAYOUT = 4,         /* an offset, the total or the length is not what the counts give */
+    BIL_VARIABLE = 5,       /* a record that no variable has; the place is the variable */
+    BIL_EXPRESSION = 6,     /* a record that no expression has, an operand that is not earlier; the expression */
+    BIL_STATEMENT = 7,      /* a record that no statement has, a body that ends outside its block; the statement */
+    BIL_USES = 8,           /* not used exactly once; the expression */
+    BIL_DEPTH = 9,          /* over 64 deep; the expression */
+    BIL_NESTING = 10,       /* a nesting over 32; the statement */
+    BIL_SCOPE = 11,         /* a let variable read outside its let, a let in another of its variable; the inner one */
+    BIL_TYPE = 12,          /* no type; the expression */
+    BIL_STATEMENT_TYPE = 13, /* a move, jump or guard of the wrong type; the statement */
+    BIL_SEAL = 14,          /* a sealed address, a sealed value let into an open variable; the load, store or let */
+    BIL_STATEMENT_SEAL = 15 /* a sealed value moved to an open variable, a sealed jump or guard; the statement */
+};
+
+/* The verdict on a table: its code, BIL_ACCEPTED to BIL_STATEMENT_TYPE, and its place, 0 where the code has none. */
+uint32_t bil_check_code(const uint8_t *table, size_t length);
+uint32_t bil_check_place(const uint8_t *table, size_t length);
+
+/* The seal check: the same verdict and, for a table that is accepted, BIL_SEAL and BIL_STATEMENT_SEAL too. */
+uint32_t bil_seal_code(const uint8_t *table, size_t length);
+uint32_t bil_seal_place(const uint8_t *table, size_t length);
 
 #ifdef __cplusplus
 }

@@ -108,8 +108,32 @@ build_driver() { # GROUP
   compile_x86 "$driver" "$root/tests/$1/driver.c" "$archive"
 }
 
+# Sets `defect_coder` to the C program that stands for the defect coder, over the archive of bil. Built where it is older.
+build_defect_coder() {
+  local source=$root/tests/verdicts/defect_coder.c
+  defect_coder=$work/defect_coder
+  [ "$defect_coder" -nt "$archive" ] && [ "$defect_coder" -nt "$source" ] && return
+  compile_x86 "$defect_coder" "$source" "$archive"
+}
+
+# Prints the bytes of a table written as text: '#' starts a comment, a line that starts with '=' is none of the table,
+# and the rest is bytes in hexadecimal.
+table_bytes() { # FILE
+  printf '%b' "$(sed -e 's/#.*//' -e '/^=/d' "$1" | tr -d ' \n' | sed 's/../\\x&/g')"
+}
+
 # Runs cargo in tests/rust, with all that it builds under target/.
 rust() { # ARGS..
   need cargo cargo
   (cd "$root/tests/rust" && CARGO_TARGET_DIR=$root/target/cargo cargo "$@")
+}
+
+# Has the Rust tests pass their own tests, and builds their programs, target/cargo/release/NAME.
+build_rust() {
+  mkdir -p "$work"
+  rust test --quiet --locked --offline --lib >"$work/cargo-test.log" 2>&1 || {
+    cat "$work/cargo-test.log"
+    fail "the Rust implementation fails its own tests"
+  }
+  rust build --quiet --locked --offline --release
 }

@@ -1,6 +1,6 @@
 -- The answer is accepted exactly where every rule holds, and else the first rule that fails, at its lowest place; so at most one
 -- answer fits. Assumes nothing.
-use mathlib.Core.Path.{_≡_, refl, subst}
+use mathlib.Core.Path.{_≡_, refl, sym, subst, _∙_}
 use mathlib.Core.Bool.{Bool, true, false}
 use mathlib.Core.List.{List, [], _∷_, _++_}
 use mathlib.Core.Logic.{_↔_}
@@ -123,9 +123,13 @@ no-rules = all-hold-accepted no-rule
 pub whole-fails : (code : ℕ) (test : Bool) (later : List Rule) → test ≡ false → refusal (whole code test ∷ later) ≡ Refused code 0
 whole-fails code test later fails = first-fault-refused (here (omega arith) (λ i h. absurd (not-suc-le-zero h)) fails)
 
-pub whole-holds : (code : ℕ) (test : Bool) (later : List Rule) → test ≡ true → refusal (whole code test ∷ later) ≡ refusal later
+-- after a rule that holds the others answer
+holds-all : (rule : Rule) (later : List Rule) → HoldsBelow (rule .holds) (rule .places) → refusal (rule ∷ later) ≡ refusal later
 unfolding refusal
-whole-holds code test later holds = rw (firstBad-none (λ place. test) 1 (λ i h. holds), refusal)
+holds-all rule later all = rw (firstBad-none (rule .holds) (rule .places) all, refusal)
+
+pub whole-holds : (code : ℕ) (test : Bool) (later : List Rule) → test ≡ true → refusal (whole code test ∷ later) ≡ refusal later
+whole-holds code test later holds = holds-all (whole code test) later (λ i h. holds)
 
 -- ------------------------------------------------------------------------------------------------
 -- At most one answer fits
@@ -160,3 +164,29 @@ all-hold-append a b = (split a, λ h. join (h .0) (h .1))
     join : {a : List Rule} → AllHold a → AllHold b → AllHold (a ++ b)
     join no-rule k = k
     join (one-more all h) k = one-more all (join h k)
+
+-- ------------------------------------------------------------------------------------------------
+-- A list of rules in two parts: the first part's refusal, and where it accepts the second part's answer
+
+pub refusal-first :
+    (a b : List Rule) (code place : ℕ) → refusal a ≡ Refused code place → refusal (a ++ b) ≡ Refused code place
+refusal-first a b code place e = first-fault-refused (on (refused-iff a code place .0 e))
+  where
+    on : {a : List Rule} {code place : ℕ} → FirstFault a code place → FirstFault (a ++ b) code place
+    on (here inside below fails) = here inside below fails
+    on (further all h) = further all (on h)
+
+pub refusal-rest : (a b : List Rule) → refusal a ≡ Accepted → refusal (a ++ b) ≡ refusal b
+refusal-rest a b e = on (accepted-iff a .0 e)
+  where
+    on : {a : List Rule} → AllHold a → refusal (a ++ b) ≡ refusal b
+    on no-rule = refl
+    on (one-more {rule = rule} {later = later} all h) = holds-all rule (later ++ b) all ∙ on h
+
+-- the same for code that asks a part, returns at its refusal, and asks the rest where it accepts
+pub refuses-here :
+    (a b : List Rule) {r : Answer} {code place : ℕ} → r ≡ refusal a → r ≡ Refused code place → Refused code place ≡ refusal (a ++ b)
+refuses-here a b is given = sym (refusal-first a b _ _ (sym is ∙ given))
+
+pub answers-next : (a b : List Rule) {r x : Answer} → r ≡ refusal a → r ≡ Accepted → x ≡ refusal b → x ≡ refusal (a ++ b)
+answers-next a b is given next = next ∙ sym (refusal-rest a b (sym is ∙ given))

@@ -11,3 +11,6 @@ is-unique p q = p ∙ sym q
 
 pub within-unique : OneAnswer (base.within.Reads.Post tt)
 within-unique a x y s = is-unique
+
+pub numbers-unique : OneAnswer (base.code_of.Reads.Post tt) × OneAnswer (base.place_of.Reads.Post tt)
+numbers-unique = (λ a x y s. is-unique, λ a x y s. is-unique)

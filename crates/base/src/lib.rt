@@ -1,6 +1,7 @@
 // What every layer shares: the answer of a check, and a test of a number. The rest is definitions and laws.
 ghost use mathlib.Core.Path.{_≡_};
 ghost use Rattle.base.specs.Choice as Choice;
+ghost use Rattle.base.specs.Refusals.{codeOf, placeOf};
 
 // The answer of a check.
 pub enum Answer {
@@ -8,6 +9,26 @@ pub enum Answer {
     Accepted,
     // The number of the rule that is broken, and the place where.
     Refused(u32, u32),
+}
+
+// The answer's code, 0 where it accepts.
+pub fn code_of(a: Answer) -> u32
+    ensures { λ r. ⌜ r ≡ codeOf a ⌝ }
+{
+    match a {
+        Answer::Accepted => 0,
+        Answer::Refused(code, _) => code,
+    }
+}
+
+// The answer's place, 0 where it accepts.
+pub fn place_of(a: Answer) -> u32
+    ensures { λ r. ⌜ r ≡ placeOf a ⌝ }
+{
+    match a {
+        Answer::Accepted => 0,
+        Answer::Refused(_, place) => place,
+    }
 }
 
 // Whether n is from least to most.

@@ -1,9 +1,16 @@
 // The library's face: what C programs call. include/bil.h declares the same functions.
 //
-// Every function takes every number that can be passed to it and asks nothing of its caller.
+// Every function takes every number and every slice of bytes that can be passed to it and asks nothing of its caller.
 ghost use mathlib.Core.Path.{_≡_};
+ghost use Rattle.base.specs.Refusals.{codeOf, placeOf};
+ghost use Rattle.sealing.specs.Verdict as Sealing;
+ghost use Rattle.typing.specs.Verdict as Typing;
 ghost use Rattle.bil.specs.WordCalls as WordCalls;
+use base::code_of;
+use base::place_of;
 use base::within;
+use verdict::check;
+use verdict::seal_check;
 use word::Computed;
 
 // Whether there is such a sub and such a width, and both words fit it.
@@ -66,4 +73,36 @@ pub extern "C" fn bil_word_value(sub: u32, width: u32, a: u64, b: u64) -> u64
         WordCall::Word(r) => r,
         WordCall::Unknown => 0,
     }
+}
+
+// The code of the first of refusals 1 to 13 that comes, 0 where the table is accepted.
+#[no_mangle]
+pub extern "C" fn bil_check_code(table: &[u8]) -> u32
+    ensures { λ r. ⌜ r ≡ codeOf (Typing.check (now (table .entry))) ⌝ }
+{
+    code_of(check(table))
+}
+
+// The place of the refusal whose code bil_check_code gives, 0 where the table is accepted.
+#[no_mangle]
+pub extern "C" fn bil_check_place(table: &[u8]) -> u32
+    ensures { λ r. ⌜ r ≡ placeOf (Typing.check (now (table .entry))) ⌝ }
+{
+    place_of(check(table))
+}
+
+// The code of the first of refusals 1 to 15 that comes, 0 where the table is accepted and clean.
+#[no_mangle]
+pub extern "C" fn bil_seal_code(table: &[u8]) -> u32
+    ensures { λ r. ⌜ r ≡ codeOf (Sealing.sealCheck (now (table .entry))) ⌝ }
+{
+    code_of(seal_check(table))
+}
+
+// The place of the refusal whose code bil_seal_code gives, 0 where the table is accepted and clean.
+#[no_mangle]
+pub extern "C" fn bil_seal_place(table: &[u8]) -> u32
+    ensures { λ r. ⌜ r ≡ placeOf (Sealing.sealCheck (now (table .entry))) ⌝ }
+{
+    place_of(seal_check(table))
 }

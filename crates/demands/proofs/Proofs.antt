@@ -2,7 +2,7 @@
 use mathlib.Core.Path.{_≡_, sym, subst}
 use mathlib.Core.List.{List, _++_}
 use mathlib.Core.Logic.{_↔_}
-use Prim.Native.Nat.{ℕ, _<_}
+use Prim.Native.Nat.{ℕ}
 use Rattle.base.specs.declared.Answer.the-variants.{Refused}
 use Rattle.base.specs.Refusals.{AllHold, no-rule, one-more, refusal}
 use Rattle.base.proofs.RefusalLaws.{accepted-iff, refused-iff, all-hold-append}
@@ -21,7 +21,8 @@ use Rattle.typing.proofs.BlockLaws.{type-rules-iff}
 use Rattle.typing.proofs.TypingLaws.{decides, unique}
 use Rattle.sealing.specs.Sealing.{SealHolds}
 use Rattle.sealing.specs.Verdict.{sealRules}
-use Rattle.sealing.proofs.SealLaws.{ExpressionKeeps, StatementKeeps, label-unique, seal-decided}
+use Rattle.sealing.proofs.PlaceLaws.{breaks-first}
+use Rattle.sealing.proofs.SealLaws.{label-decides, seal-rules-iff}
 use Rattle.memory.specs.Log.{entries}
 use Rattle.memory.specs.Typed.{Has}
 use Rattle.evaluation.specs.State.{inState}
@@ -68,14 +69,13 @@ type-rules-hold s h = (to, λ t. let p = type-rules-iff reads .1 t in one-more (
 -- refusals 14 and 15
 seal-rules-hold : (s : List ℕ) → AllHold (headerRules s ++ recordRules s) → AllHold (sealRules s) ↔ SealHolds s
 unfolding sealRules
-seal-rules-hold s h = (to, λ t. let p = decided .1 t in one-more (p .0) (one-more (p .1) no-rule))
+seal-rules-hold s h = (to, λ t. let p = seal-rules-iff reads .1 t in one-more (p .0) (one-more (p .1) no-rule))
   where
-    decided :
-        (((i : ℕ) → i < header s .expressions → ExpressionKeeps s i) × ((i : ℕ) → i < header s .statements → StatementKeeps s i)) ↔ SealHolds s
-    decided = seal-decided s (expr-view (records-of h)) (program-reads (records-of h))
+    reads : Reads s 0 (header s .statements) (program s)
+    reads = program-reads (records-of h)
 
     to : AllHold (sealRules s) → SealHolds s
-    to (one-more e (one-more k no-rule)) = decided .0 (e, k)
+    to (one-more e (one-more k no-rule)) = seal-rules-iff reads .0 (e, k)
 
 -- refusals 1 to 13
 check-rules-iff : (s : List ℕ) → AllHold (checkRules s) ↔ RulesHold s
@@ -150,4 +150,10 @@ demand-3 s t a c = demand-3-over-rules s t a (demand-2 .seal (s .table) .0 c .1 
 -- What the verdicts' places go by
 
 pub decided : Decided
-decided = record { types = λ Γ e t. decides; one-type = λ Γ e t u. unique; labels = λ Γ e l. label-unique }
+decided =
+    record {
+      types = λ Γ e t. decides;
+      one-type = λ Γ e t u. unique;
+      labels = λ Γ e l. label-decides;
+      broken = λ s hold. breaks-first s (expr-view hold);
+    }

@@ -1,24 +1,27 @@
 -- The three demands of the customer, each in the order of its words. proofs/Proofs.antt proves them of the rules' own entries.
 -- Assumes nothing.
 use mathlib.Core.Path.{_≡_}
-use mathlib.Core.Bool.{Bool}
+use mathlib.Core.Bool.{Bool, false}
 use mathlib.Core.List.{List, _++_}
 use mathlib.Core.Logic.{_↔_}
 use Prim.Native.Nat.{ℕ, _<_}
 use Rattle.base.specs.declared.Answer.{Answer}
 use Rattle.base.specs.declared.Answer.the-variants.{Accepted, Refused}
-use Rattle.base.specs.Refusals.{AllHold, FirstFault}
+use Rattle.base.specs.Refusals.{HoldsBelow, AllHold, FirstFault}
 use Rattle.value.specs.declared.ValueType.{ValueType}
 use Rattle.table.specs.Bytes.{header}
-use Rattle.table.specs.Records.{headerRules, recordRules}
-use Rattle.table.specs.Decode.{Context, context}
+use Rattle.table.specs.Records.{RecordsHold, headerRules, recordRules}
+use Rattle.table.specs.Decode.{Context, context, expr}
 use Rattle.table.specs.Syntax.{Expr}
 use Rattle.forest.specs.Forest.{forestRules}
 use Rattle.typing.specs.declared.Typed.the-variants.{Of}
 use Rattle.typing.specs.Typing.{_⊢_∶_, TypingHolds}
-use Rattle.typing.specs.Verdict.{infer, checkRules, check}
-use Rattle.sealing.specs.Sealing.{Seals, SealHolds}
-use Rattle.sealing.specs.Verdict.{sealed, sealRules, sealCheck}
+use Rattle.typing.specs.Infer.{infer}
+use Rattle.typing.specs.Verdict.{checkRules, check}
+use Rattle.sealing.specs.declared.Label.the-variants as Labels
+use Rattle.sealing.specs.Sealing.{Seals, Breaks, SealHolds}
+use Rattle.sealing.specs.Labels.{labelOf}
+use Rattle.sealing.specs.Verdict.{expressionSealRule, sealRules, sealCheck}
 use Rattle.memory.specs.Log.{entries}
 use Rattle.memory.specs.Typed.{Has}
 use Rattle.evaluation.specs.State.{inState}
@@ -70,11 +73,16 @@ pub record Demand2 (entry : Entries) : Type 0 where
   -- an accepted start ends as an accepted start
   pub again : (s : Start) → Accepts s → (budget : ℕ) → Accepts (nextStart s (entry .run s) budget)
 
--- where a verdict names a place it goes by `infer` and `sealed`: they say what the rules say of each expression
+-- where a verdict names a place it goes by `infer` and `labelOf`: they say what the rules say of each expression
 pub record Decided : Type 0 where
   pub types : (Γ : Context) (e : Expr) (t : ValueType) → (infer Γ e ≡ Of t) ↔ (Γ ⊢ e ∶ t)
   pub one-type : (Γ : Context) (e : Expr) (t u : ValueType) → Γ ⊢ e ∶ t → Γ ⊢ e ∶ u → t ≡ u
-  pub labels : (Γ : Context) (e : Expr) (l : Bool) → Seals Γ e l → l ≡ sealed Γ e
+  pub labels : (Γ : Context) (e : Expr) (l : Bool) → (labelOf Γ e ≡ Labels.Of l) ↔ Seals Γ e l
+  -- 14 names the lowest expression that breaks a seal rule itself
+  pub broken :
+      (s : List ℕ) → RecordsHold s → (i : ℕ) → i < header s .expressions
+      → (HoldsBelow (expressionSealRule s .holds) i × (expressionSealRule s .holds i ≡ false))
+      ↔ (((k : ℕ) → k < i → Breaks (context s) (expr s k) → ⊥) × Breaks (context s) (expr s i))
 
 -- ------------------------------------------------------------------------------------------------
 -- Demand 3. "Two accepted starts of a table with a clean seal verdict, with the same budget, next address, log room and log count,

@@ -1,20 +1,18 @@
 -- Counting how often each number stands in a list. Assumes nothing.
-use mathlib.Core.Path.{_≡_, refl, ap, _∙_}
+use mathlib.Core.Path.{_≡_, refl, ap, subst, _∙_}
 use mathlib.Core.Bool.{Bool, true, false}
 use mathlib.Core.List.{List, [], _∷_, _++_}
-use Prim.Native.Nat.{ℕ, suc, _+_, _*_, _≤_, _<_}
+use Prim.Native.Nat.{ℕ, zero, suc, _+_, _*_, _≤_, _<_}
 use native.Mathlib.Numerals.{add-one}
-use native.Mathlib.Decide.{decLt}
 use native.Mathlib.Omega.{arith}
 use lib.Dec.{eqb}
-use lib.ListN.{length, getD, set, replicate, length-set, length-replicate, getD-replicate, List·getD-eq-default}
+use lib.ListN.{length, getD, set, replicate, length-set, length-replicate}
 use lib.Seq.{getD-set-same, getD-set-other}
 use borrow.Author.Tests.{eqb-true, eqb-false}
 use Rattle.base.specs.Choice.{if_then_else_}
 use Rattle.base.specs.Refusals.{refusal}
 use Rattle.table.specs.declared.Header.{Header}
 use Rattle.table.specs.Bytes.{header}
-use Rattle.table.specs.Records.{mostExpressions}
 use Rattle.forest.specs.declared.operands.Operands.{Operands}
 use Rattle.forest.specs.declared.operands.Operands.the-variants.{Leaf, One, Two, Three}
 use Rattle.forest.specs.Forest.{howOften, over, operandsOf, expressionsOf, uses, useRule}
@@ -67,7 +65,7 @@ counted-then {a} {b} {c} {xs} {ys} f g =
 
 pub counters-on : {m : ℕ} {a b ks : List ℕ} (n : ℕ) → Counters m a → Counted a b ks → m + length ks ≤ n → Counters n b
 counters-on {ks = ks} n most f small =
-    record { long = f .long ∙ most .long; each = λ k. omega (arith, most .each k, f .each k, howOften-length k ks) }
+    record { each = λ k. omega (arith, most .each k, f .each k, howOften-length k ks) }
 
 -- ------------------------------------------------------------------------------------------------
 -- Counting by record
@@ -92,22 +90,32 @@ one-more {named} {m} {first} {a} {b} i o so c is =
       most = counters-on (m + 3 * (i + 1)) (so .most) c (omega arith);
     }
 
--- ------------------------------------------------------------------------------------------------
--- What the counters say in the end
+pub all-counted : {named : ℕ → List ℕ} {m : ℕ} {first counts : List ℕ} {i n : ℕ} → SoFar named m first counts i → i ≡ n
+    → Counted first counts (over named n)
+all-counted {named} {first = first} {counts} so all = subst (λ (k : ℕ). Counted first counts (over named k)) all (so .counted)
 
-pub zeros : Counters 0 (replicate mostExpressions 0)
-zeros = record { long = length-replicate {A = ℕ} mostExpressions 0; each = λ k. go k (decLt k mostExpressions) }
-  where
-    go : (k : ℕ) → Dec (k < mostExpressions) → getD (replicate mostExpressions 0) k 0 ≤ 0
-    go k (yes h) = let e = getD-replicate {A = ℕ} mostExpressions k 0 0 h in omega arith
-    go k (no h) = let e = List·getD-eq-default {A = ℕ} (replicate mostExpressions 0) 0 {n = k} (rw length-replicate (omega arith)) in omega arith
+-- ------------------------------------------------------------------------------------------------
+-- What the counters say in the beginning and in the end
+
+-- a local array of n zeros: n counters, none over 0
+pub record Zeros (n : ℕ) : Type 0 where
+  pub long : length {A = ℕ} (replicate n 0) ≡ n
+  pub each : (k : ℕ) → getD (replicate n 0) k 0 ≤ 0
+
+each-zero : (n k : ℕ) → getD (replicate n 0) k 0 ≤ 0
+each-zero zero k = omega arith
+each-zero (suc n) zero = omega arith
+each-zero (suc n) (suc k) = each-zero n k
+
+pub zeros-of : (n : ℕ) → Zeros n
+zeros-of n = record { long = length-replicate {A = ℕ} n 0; each = each-zero n }
 
 -- counters of all uses, expressions' and then statements', tell whether refusal 8 comes
 pub counted-refusal :
     (s : List ℕ) (h : Header) → h ≡ header s → {z a b : List ℕ} → Counters 0 z → Counted z a (over (operandsOf s) (h .expressions))
     → Counted a b (over (expressionsOf s) (h .statements)) → refusal (countRule b (h .expressions) ∷ []) ≡ refusal (useRule s ∷ [])
 unfolding useRule uses
-counted-refusal s h is {z} {a} {b} zero p q =
+counted-refusal s h is {z} {a} {b} start p q =
     ap (λ (h : Header). refusal (countRule b (h .expressions) ∷ [])) is
     ∙ ap (λ (f : ℕ → ℕ). refusal (record { code = 8; places = header s .expressions; holds = λ i. eqb (f i) 1 } ∷ [])) (λ i k. each k i)
   where
@@ -115,4 +123,4 @@ counted-refusal s h is {z} {a} {b} zero p q =
     all h = over (operandsOf s) (h .expressions) ++ over (expressionsOf s) (h .statements)
 
     each : (k : ℕ) → getD b k 0 ≡ howOften k (all (header s))
-    each k = let e = ap (λ (h : Header). howOften k (all h)) is in omega (arith, counted-then p q .each k, zero .each k)
+    each k = let e = ap (λ (h : Header). howOften k (all h)) is in omega (arith, counted-then p q .each k, start .each k)

@@ -4,7 +4,7 @@ use mathlib.Core.List.{List, [], _∷_, map}
 use Prim.Native.Nat.{ℕ, suc, _+_, _≤_, _<_}
 use native.Mathlib.Nat.{lt-of-lt-of-le}
 use native.Mathlib.Omega.{arith}
-use lib.ListN.{length, getD, set, length-set}
+use lib.ListN.{length, getD, set}
 use lib.Seq.{getD-set-same, getD-set-other}
 use lib.Dec.{leb}
 use borrow.Author.Count.{below-none, below-more}
@@ -15,7 +15,6 @@ use Rattle.base.proofs.CourseLaws.{upTo-at}
 use Rattle.base.proofs.RefusalLaws.{one-rule-accepted, one-rule-refused}
 use Rattle.table.specs.declared.Header.{Header}
 use Rattle.table.specs.Bytes.{header}
-use Rattle.table.specs.Records.{mostExpressions}
 use Rattle.forest.specs.Forest.{operandsOf, largest, depths, mostDepth, depthRule}
 use Rattle.forest.specs.Counting.{AllBelow, none, _and_}
 
@@ -36,12 +35,11 @@ map-below f g (l and ls) same = ap₂ _∷_ (same _ l) (map-below f g ls same)
 
 -- the first i places keep the depths of a table of n expressions, none over the limit
 pub record Kept (s : List ℕ) (n : ℕ) (kept : List ℕ) (i : ℕ) : Type 0 where
-  pub long : length kept ≡ mostExpressions
   pub each : (k : ℕ) → k < i → getD kept k 0 ≡ getD (depths s n) k 0
   pub small : (k : ℕ) → k < i → getD (depths s n) k 0 ≤ mostDepth
 
-pub none-kept : (s : List ℕ) (n : ℕ) {kept : List ℕ} → length kept ≡ mostExpressions → Kept s n kept 0
-none-kept s n long = record { long = long; each = below-none _; small = below-none _ }
+pub none-kept : (s : List ℕ) (n : ℕ) {kept : List ℕ} → Kept s n kept 0
+none-kept s n = record { each = below-none _; small = below-none _ }
 
 -- the depth of the next expression, by what is kept
 pub depth-next :
@@ -55,16 +53,14 @@ depth-next {s} {n} {kept} i h below inside =
     omega (arith, depths-at s n i inside, ap largest same)
 
 pub keep :
-    {s : List ℕ} {n : ℕ} {kept : List ℕ} (i v : ℕ) → Kept s n kept i → i < mostExpressions → getD (depths s n) i 0 ≡ v
+    {s : List ℕ} {n : ℕ} {kept : List ℕ} (i v : ℕ) → Kept s n kept i → i < length kept → getD (depths s n) i 0 ≡ v
     → v ≤ mostDepth → Kept s n (set kept i v) (i + 1)
 keep {s} {n} {kept} i v h inside is small =
-    let long = h .long in
     record {
-      long = length-set kept i v ∙ long;
       each =
           below-more (λ k. getD (set kept i v) k 0 ≡ getD (depths s n) k 0) i
           (λ k l. getD-set-other kept i k v 0 (λ e. omega arith) ∙ h .each k l)
-          (getD-set-same kept i v 0 (omega arith) ∙ sym is);
+          (getD-set-same kept i v 0 inside ∙ sym is);
       small = below-more (λ k. getD (depths s n) k 0 ≤ mostDepth) i (h .small) (omega arith);
     }
 

@@ -1,5 +1,13 @@
 pub mod CountLaws
 pub mod DepthLaws
+pub mod HandingLaws
+pub mod InsideLaws
+pub mod NearestLaws
+pub mod NestingLaws
 pub mod OperandLaws
+pub mod ScopeLaws
+pub mod SearchLaws
 pub mod Slips
 pub mod Unique
+pub mod UseLaws
+pub mod UserLaws

@@ -1,5 +1,5 @@
 -- Operands name earlier expressions, where the records hold. Assumes nothing.
-use mathlib.Core.Path.{_≡_, ap, subst, _∙_}
+use mathlib.Core.Path.{_≡_, ap, subst, sym, _∙_}
 use mathlib.Core.Bool.{true}
 use mathlib.Core.List.{List, _∷_}
 use Prim.Native.Nat.{ℕ, _≤_, _<_}
@@ -13,7 +13,7 @@ use Rattle.table.specs.declared.Node.{Node}
 use Rattle.table.specs.Bytes.{header, expression, statement}
 use Rattle.table.specs.Fields as F
 use Rattle.table.specs.Fields.{Row, noRow, operands, expressionRows, statementRows, expressionRow, statementRow}
-use Rattle.table.specs.Records.{fieldOk, recordOk, Framed, RecordsHold, mostExpressions}
+use Rattle.table.specs.Records.{fieldOk, recordOk, Framed, RecordsHold}
 use Rattle.table.proofs.FieldLaws.{FieldsHold, fields-hold, operand-field}
 use Rattle.forest.specs.declared.operands.Operands.{Operands}
 use Rattle.forest.specs.Forest.{operandsOf, expressionsOf}
@@ -111,10 +111,12 @@ module _ {s : List ℕ} {h : Header} (framed : Framed s h) (hold : RecordsHold s
   pub earlier : i < h .expressions → AllBelow i (operandsOf s i)
   earlier l = operands-earlier hold i (subst (λ (h : Header). i < h .expressions) (framed .is) l)
 
-  pub operands-counted : i < h .expressions → AllBelow mostExpressions (operandsOf s i)
-  operands-counted l = let m = framed .expressions in widened (earlier l) (omega arith)
+  -- what a record names is below any n that is not less than the number of expressions
+  pub operands-below : {n : ℕ} {ks : List ℕ} → ks ≡ operandsOf s i → h .expressions ≤ n → i < h .expressions → AllBelow n ks
+  operands-below {n} is m l = subst (AllBelow n) (sym is) (widened (earlier l) (omega arith))
 
-  pub expressions-counted : i < h .statements → AllBelow mostExpressions (expressionsOf s i)
-  expressions-counted l =
-      widened (expressions-inside hold i (subst (λ (h : Header). i < h .statements) (framed .is) l))
-      (subst (λ (h : Header). h .expressions ≤ mostExpressions) (framed .is) (framed .expressions))
+  pub expressions-below : {n : ℕ} {ks : List ℕ} → ks ≡ expressionsOf s i → h .expressions ≤ n → i < h .statements → AllBelow n ks
+  expressions-below {n} is m l =
+      subst (AllBelow n) (sym is)
+      (widened (expressions-inside hold i (subst (λ (h : Header). i < h .statements) (framed .is) l))
+      (subst (λ (h : Header). h .expressions ≤ n) (framed .is) m))

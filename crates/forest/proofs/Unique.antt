@@ -35,4 +35,6 @@ pub checks-unique : (lent : Lfts 1) →
     OneAnswer (forest.uses.uses_once.Reads.Post lent)
     × OneAnswer (forest.depth.depths_ok.Reads.Post lent)
     × OneAnswer (forest.nesting.nestings_ok.Reads.Post lent)
-checks-unique lent = (λ a x y s. is-unique, λ a x y s. is-unique, λ a x y s. is-unique)
+    × OneAnswer (forest.scope.scopes_ok.Reads.Post lent)
+    × OneAnswer (forest.rules.forest_ok.Reads.Post lent)
+checks-unique lent = (λ a x y s. is-unique, λ a x y s. is-unique, λ a x y s. is-unique, λ a x y s. is-unique, λ a x y s. is-unique)

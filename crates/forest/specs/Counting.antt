@@ -5,7 +5,6 @@ use Prim.Native.Nat.{ℕ, _+_, _≤_, _<_}
 use lib.Dec.{eqb}
 use lib.ListN.{length, getD}
 use Rattle.base.specs.Refusals.{Rule}
-use Rattle.table.specs.Records.{mostExpressions}
 use Rattle.forest.specs.declared.operands.Operands.{Operands}
 use Rattle.forest.specs.declared.operands.Operands.the-variants.{Leaf, One, Two, Three}
 use Rattle.forest.specs.Forest.{howOften}
@@ -23,14 +22,17 @@ pub data AllBelow (n : ℕ) : List ℕ → Type 0 where
   none : AllBelow n []
   _and_ : {k : ℕ} {ks : List ℕ} → k < n → AllBelow n ks → AllBelow n (k ∷ ks)
 
+-- a number stands in a list
+pub record Stands (k : ℕ) (ks : List ℕ) : Type 0 where
+  pub counts : 1 ≤ howOften k ks
+
 -- each counter went up by how often its number stands in a list
 pub record Counted (before after ks : List ℕ) : Type 0 where
   pub long : length after ≡ length before
   pub each : (k : ℕ) → getD after k 0 ≡ getD before k 0 + howOften k ks
 
--- a counter for each expression that a table can have, none over m
+-- no counter is over m
 pub record Counters (m : ℕ) (counts : List ℕ) : Type 0 where
-  pub long : length counts ≡ mostExpressions
   pub each : (k : ℕ) → getD counts k 0 ≤ m
 
 -- each of the first n counters is 1

@@ -1,2 +1,4 @@
 pub mod Counting
+pub mod Ends
 pub mod Forest
+pub mod Scoping

@@ -2,6 +2,7 @@
 ghost use mathlib.Core.Path.{_≡_};
 ghost use mathlib.Core.List.{[], _∷_};
 ghost use Prim.Native.Nat.{_-_, _*_, _^_, _≤_, _<_};
+ghost use lib.ListN.{length};
 ghost use Rattle.base.specs.Refusals.{refusal};
 ghost use Rattle.table.specs.Records.{Framed, RecordsHold, mostExpressions};
 ghost use Rattle.forest.specs.Forest.{over, operandsOf, expressionsOf, useRule};
@@ -14,9 +15,9 @@ use table::Header;
 use table::bytes;
 
 // One more use of an expression, where every counter has room for it.
-fn note(counts: &mut [u32; MOST_EXPRESSIONS], k: u32)
-    requires { ⌜ k < mostExpressions ⌝ }
-    requires { ⌜ Counters (2 ^ 32 - 2) (now counts) ⌝ }
+fn note(counts: &mut [u16], k: u32)
+    requires { ⌜ k < length (now counts) ⌝ }
+    requires { ⌜ Counters (2 ^ 16 - 2) (now counts) ⌝ }
     ensures { λ r. ⌜ Counted (now (counts .entry)) (now (counts .exit)) (k ∷ []) ⌝ }
 {
     let at = k as usize;
@@ -24,9 +25,9 @@ fn note(counts: &mut [u32; MOST_EXPRESSIONS], k: u32)
 }
 
 // One more use of each operand, where every counter has room for three.
-fn note_all(counts: &mut [u32; MOST_EXPRESSIONS], o: Operands)
-    requires { ⌜ AllBelow mostExpressions (listed o) ⌝ }
-    requires { ⌜ Counters (2 ^ 32 - 4) (now counts) ⌝ }
+fn note_all(counts: &mut [u16], o: Operands)
+    requires { ⌜ AllBelow (length (now counts)) (listed o) ⌝ }
+    requires { ⌜ Counters (2 ^ 16 - 4) (now counts) ⌝ }
     ensures { λ r. ⌜ Counted (now (counts .entry)) (now (counts .exit)) (listed o) ⌝ }
 {
     match o {
@@ -45,9 +46,10 @@ fn note_all(counts: &mut [u32; MOST_EXPRESSIONS], o: Operands)
 }
 
 // The uses by expressions.
-fn count_expressions(s: &[u8], h: Header, counts: &mut [u32; MOST_EXPRESSIONS])
+fn count_expressions(s: &[u8], h: Header, counts: &mut [u16])
     requires { ⌜ Framed (now s) h ⌝ }
     requires { ⌜ RecordsHold (now s) ⌝ }
+    requires { ⌜ h .expressions ≤ length (now counts) ⌝ }
     requires { ⌜ Counters 0 (now counts) ⌝ }
     ensures { λ r.
         ⌜
@@ -64,9 +66,10 @@ fn count_expressions(s: &[u8], h: Header, counts: &mut [u32; MOST_EXPRESSIONS])
 }
 
 // The uses by statements.
-fn count_statements(s: &[u8], h: Header, counts: &mut [u32; MOST_EXPRESSIONS])
+fn count_statements(s: &[u8], h: Header, counts: &mut [u16])
     requires { ⌜ Framed (now s) h ⌝ }
     requires { ⌜ RecordsHold (now s) ⌝ }
+    requires { ⌜ h .expressions ≤ length (now counts) ⌝ }
     requires { ⌜ Counters (3 * mostExpressions) (now counts) ⌝ }
     ensures { λ r. ⌜ Counted (now (counts .entry)) (now (counts .exit)) (over (expressionsOf (now (s .entry))) (h .statements)) ⌝ }
 {
@@ -78,11 +81,12 @@ fn count_statements(s: &[u8], h: Header, counts: &mut [u32; MOST_EXPRESSIONS])
     }
 }
 
-// The lowest of the first n places whose counter is not 1.
-fn lowest(counts: &[u32; MOST_EXPRESSIONS], n: usize) -> Answer
-    requires { ⌜ n ≤ mostExpressions ⌝ }
-    ensures { λ r. ⌜ r ≡ refusal (countRule (now (counts .entry)) n ∷ []) ⌝ }
+// The lowest expression whose counter is not 1.
+fn lowest(h: Header, counts: &[u16]) -> Answer
+    requires { ⌜ h .expressions ≤ length (now counts) ⌝ }
+    ensures { λ r. ⌜ r ≡ refusal (countRule (now (counts .entry)) (h .expressions) ∷ []) ⌝ }
 {
+    let n = h.expressions as usize;
     let mut i = 0;
     while i < n {
         if counts[i] != 1 {
@@ -93,14 +97,33 @@ fn lowest(counts: &[u32; MOST_EXPRESSIONS], n: usize) -> Answer
     Answer::Accepted
 }
 
-// Refusal 8 at the lowest expression that is not used exactly once.
+// Refusal 8, by counters that start at 0, one for each expression or more.
+fn uses_in(s: &[u8], h: Header, counts: &mut [u16]) -> Answer
+    requires { ⌜ Framed (now s) h ⌝ }
+    requires { ⌜ RecordsHold (now s) ⌝ }
+    requires { ⌜ h .expressions ≤ length (now counts) ⌝ }
+    requires { ⌜ Counters 0 (now counts) ⌝ }
+    ensures { λ r. ⌜ r ≡ refusal (useRule (now (s .entry)) ∷ []) ⌝ }
+{
+    count_expressions(s, h, counts);
+    count_statements(s, h, counts);
+    lowest(h, counts)
+}
+
+// Refusal 8 at the lowest expression that is not used exactly once. A small table gets a small array, since all of it is zeroed.
 pub fn uses_once(s: &[u8], h: Header) -> Answer
     requires { ⌜ Framed (now s) h ⌝ }
     requires { ⌜ RecordsHold (now s) ⌝ }
     ensures { λ r. ⌜ r ≡ refusal (useRule (now (s .entry)) ∷ []) ⌝ }
 {
-    let mut counts = [0u32; MOST_EXPRESSIONS];
-    count_expressions(s, h, &mut counts);
-    count_statements(s, h, &mut counts);
-    lowest(&counts, h.expressions as usize)
+    if h.expressions <= 64 {
+        let mut counts = [0u16; 64];
+        return uses_in(s, h, &mut counts[..]);
+    }
+    if h.expressions <= 1024 {
+        let mut counts = [0u16; 1024];
+        return uses_in(s, h, &mut counts[..]);
+    }
+    let mut counts = [0u16; MOST_EXPRESSIONS];
+    uses_in(s, h, &mut counts[..])
 }

@@ -1,14 +1,15 @@
 -- Logs that go on, the chains in them, and a buffer that holds a log. Assumes nothing.
 use mathlib.Core.Path.{_≡_, refl, ap, _∙_}
+use mathlib.Core.Bool.{Bool, true, false}
 use mathlib.Core.List.{List, [], _∷_, _++_, append-assoc}
-use Prim.Native.Nat.{ℕ, zero, suc, _*_, _≤_}
-use native.Mathlib.Nat.{le-refl}
+use Prim.Native.Nat.{ℕ, zero, suc, _+_, _*_, _≤_, _<_}
+use native.Mathlib.Nat.{le-refl, not-suc-le-zero}
 use native.Mathlib.Omega.{arith}
-use lib.Dec.{eqb·zero-suc}
-use lib.ListN.{length, drop, length-append, length-drop}
+use lib.Dec.{eqb, eqb·zero-suc}
+use lib.ListN.{length, getD, drop, length-append, length-drop}
 use lib.Seq.{getD-append-add, getD-append-seam}
-use borrow.Author.Tests.{eq-eqb, ne-eqb}
-use Rattle.memory.specs.Log.{Entry, Log, chain, entries, entryAt, numbersOf, holding, entrySize}
+use borrow.Author.Tests.{eq-eqb, ne-eqb, eqb-true, eqb-false}
+use Rattle.memory.specs.Log.{Entry, Log, chain, entries, entryAt, widthAt, numbersOf, holding, entrySize}
 
 -- ------------------------------------------------------------------------------------------------
 -- A log that went on
@@ -54,6 +55,17 @@ pub length-entries : (l : List ℕ) (n : ℕ) → length (entries l n) ≡ n
 unfolding entries
 length-entries l zero = refl
 length-entries l (suc n) = ap suc (length-entries l n)
+
+-- the width of an entry of the first n stands in the buffer
+pub width-in-buffer : (l : List ℕ) (n i : ℕ) → i < n → widthAt (entries l n) (suc i) ≡ getD l (entrySize * i + 1) 0
+unfolding entries entryAt widthAt
+width-in-buffer l zero i h = absurd (not-suc-le-zero h)
+width-in-buffer l (suc n) i h = rw (length-entries l n, widthAt) (go (eqb (suc i) (suc n)) refl (width-in-buffer l n i))
+  where
+    go : (t : Bool) → eqb (suc i) (suc n) ≡ t → (i < n → widthAt (entries l n) (suc i) ≡ getD l (entrySize * i + 1) 0)
+        → elim t [ true ↦ getD l (entrySize * n + 1) 0 | false ↦ widthAt (entries l n) (suc i) ] ≡ getD l (entrySize * i + 1) 0
+    go true e older = ap (λ (k : ℕ). getD l (entrySize * k + 1) 0) (let d = eqb-true (suc i) (suc n) e in omega arith)
+    go false e older = older (let d = eqb-false (suc i) (suc n) e in omega arith)
 
 pub length-numbersOf : (L : Log) → length (numbersOf L) ≡ entrySize * length L
 unfolding numbersOf

@@ -53,14 +53,14 @@ start-ok-iff s = (to, λ a. one-more (a .numbers) (one-more (a .log) (one-more (
     to (one-more n (one-more l (one-more p no-rule))) = record { numbers = n; log = l; pairs = p }
 
 -- refusal 16 in numbers
-record Numbers (s : Start) : Type 0 where
-  state : length (s .state) ≡ 2 * header (s .table) .variables
-  multiple : length (s .log) % entrySize ≡ 0
-  room : roomOf s ≤ mostEntries
-  count : s .count ≤ roomOf s
-  next : s .next < 2 ^ header (s .table) .width
+pub record Numbers (s : Start) : Type 0 where
+  pub state : length (s .state) ≡ 2 * header (s .table) .variables
+  pub multiple : length (s .log) % entrySize ≡ 0
+  pub room : roomOf s ≤ mostEntries
+  pub count : s .count ≤ roomOf s
+  pub next : s .next < 2 ^ header (s .table) .width
 
-numbers-of : (s : Start) → HoldsBelow (λ i. getD (numbersOk s) i true) 4 → Numbers s
+pub numbers-of : (s : Start) → HoldsBelow (λ i. getD (numbersOk s) i true) 4 → Numbers s
 unfolding numbersOk
 numbers-of s h =
     let p = and-eq-true-iff (eqb (length (s .log) % entrySize) 0) (leb (roomOf s) mostEntries) .0 (h 1 (omega arith)) in

@@ -50,15 +50,25 @@ pairOk L v kind n =
     || ((eqb kind 2 && eqb n 0)
     || (eqb kind 3 && (eqb (v .kind) 2 && (within 1 (length L) n && eqb (widthAt L n) (v .addressWidth)))))))
 
+-- ------------------------------------------------------------------------------------------------
+-- The rules
+
+abbrev pub numbersRule : Start → Rule
+numbersRule s = record { code = 16; places = 4; holds = λ i. getD (numbersOk s) i true }
+
+-- 17: "an entry within the count breaks the log's rules"; entries count from 1
+abbrev pub entryRule : List ℕ → ℕ → Rule
+entryRule log count = record { code = 17; places = suc count; holds = λ n. newestOk (entries log n) }
+
+-- each variable of a table, by a state and a log
+abbrev pub pairRule : List ℕ → List ℕ → Log → Rule
+pairRule table state L =
+    record {
+      code = 18;
+      places = header table .variables;
+      holds = λ x. pairOk L (variable table x) (getD state (2 * x) 0) (getD state (2 * x + 1) 0);
+    }
+
 unfoldable pub startRules : Start → List Rule
 unfolding numbersOk newestOk pairOk entries variable header
-startRules s =
-    record { code = 16; places = 4; holds = λ i. getD (numbersOk s) i true }
-    -- 17: "an entry within the count breaks the log's rules"; entries count from 1
-    ∷ record { code = 17; places = suc (s .count); holds = λ n. newestOk (entries (s .log) n) }
-    ∷ record {
-      code = 18;
-      places = header (s .table) .variables;
-      holds = λ x. pairOk (logOf s) (variable (s .table) x) (getD (s .state) (2 * x) 0) (getD (s .state) (2 * x + 1) 0);
-    }
-    ∷ []
+startRules s = numbersRule s ∷ entryRule (s .log) (s .count) ∷ pairRule (s .table) (s .state) (logOf s) ∷ []

@@ -1,2 +1,4 @@
 pub mod CleanLaws
+pub mod PlaceLaws
 pub mod SealLaws
+pub mod Unique

@@ -1,2 +1,4 @@
+pub mod ByOp
+pub mod Labels
 pub mod Sealing
 pub mod Verdict

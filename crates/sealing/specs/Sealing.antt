@@ -1,6 +1,6 @@
 -- The seal rules as rules: `Seals Γ e sealed` says that expression e breaks none and what its label is. Assumes nothing.
 use mathlib.Core.Path.{_≡_}
-use mathlib.Core.Bool.{Bool, false, _||_}
+use mathlib.Core.Bool.{Bool, true, false, _||_}
 use mathlib.Core.List.{List}
 use Prim.Native.Nat.{ℕ, _<_}
 use Rattle.value.specs.declared.ValueType.{ValueType}
@@ -24,6 +24,12 @@ pub data Seals (Γ : Context) : Expr → Bool → Type 0 where
   S-ITE : {l k j : Bool} {c e f : Expr} → Seals Γ c l → Seals Γ e k → Seals Γ f j → Seals Γ (S.ite c e f) (l || (k || j))
   S-EXTRACT : {p q : ℕ} {l : Bool} {e : Expr} → Seals Γ e l → Seals Γ (S.extract p q e) l
   S-CONCAT : {l k : Bool} {e f : Expr} → Seals Γ e l → Seals Γ f k → Seals Γ (S.concat e f) (l || k)
+
+-- an expression that itself breaks one of these rules, by its operand's label
+pub data Breaks (Γ : Context) : Expr → Type 0 where
+  B-LOAD : {z : ℕ} {big : Bool} {m e : Expr} → Seals Γ e true → Breaks Γ (S.load z big m e)
+  B-STORE : {z : ℕ} {big : Bool} {m e v : Expr} → Seals Γ e true → Breaks Γ (S.store z big m e v)
+  B-LET : {x : ℕ} {e f : Expr} → Γ .sealed x ≡ false → Seals Γ e true → Breaks Γ (S.lets x e f)
 
 -- "a sealed expression moved to an open variable; a sealed jump or guard" are refused
 pub data Clean (Γ : Context) : Block → Type 0 where

@@ -3,12 +3,8 @@ pub mod ExpressionLaws
 pub mod FieldLaws
 pub mod FrameLaws
 pub mod Nesting
-pub mod NestingLaws
 pub mod NumberLaws
-pub mod OwnerLaws
 pub mod Program
 pub mod RecordLaws
-pub mod RowLaws
-pub mod StatementLaws
 pub mod Unique
 pub mod View

@@ -1,6 +1,5 @@
 pub mod Bytes
 pub mod Decode
 pub mod Fields
-pub mod Owners
 pub mod Records
 pub mod Syntax

@@ -1,13 +1,7 @@
-// The table of paper 01: its bytes, its records and what they must be.
-pub mod blocks;
+// The table of paper 01: its bytes, its frame and its records.
 pub mod bytes;
-pub mod expressions;
-pub mod fields;
 pub mod framing;
-pub mod nestings;
 pub mod ops;
-pub mod statements;
-pub mod variables;
 
 // The header: format, address width A, then the counts V, E and S, each with the offset of its section, and the total length.
 pub struct Header {
@@ -43,3 +37,8 @@ pub struct Node {
     pub b: u32,
     pub c: u32,
 }
+
+// The roles of a variable.
+pub const ROLE_STATE: u32 = 0;
+
+pub const ROLE_LET: u32 = 1;

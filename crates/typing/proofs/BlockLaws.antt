@@ -16,7 +16,8 @@ use Rattle.table.proofs.View as R
 use Rattle.table.proofs.View.{Reads}
 use Rattle.typing.specs.Typing as T
 use Rattle.typing.specs.Typing.{_⊢_∶_, Ok, TypingHolds}
-use Rattle.typing.specs.Verdict.{isType, hasType, infer, statementTypes, statementTyped}
+use Rattle.typing.specs.Infer.{isType, hasType, infer}
+use Rattle.typing.specs.Verdict.{statementTypes, statementTyped}
 use Rattle.typing.proofs.TypingLaws.{this-type-iff, some-type-iff}
 
 -- ------------------------------------------------------------------------------------------------

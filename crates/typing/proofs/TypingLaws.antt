@@ -16,7 +16,7 @@ use Rattle.typing.specs.declared.Typed.{Typed}
 use Rattle.typing.specs.declared.Typed.the-variants.{Of, Untyped}
 use Rattle.typing.specs.Typing as T
 use Rattle.typing.specs.Typing.{_⊢_∶_}
-use Rattle.typing.specs.Verdict.{immediate, memory, when, sameType, isType, hasType, bothTypes, mayCast, infer}
+use Rattle.typing.specs.Infer.{immediate, memory, when, sameType, isType, hasType, bothTypes, mayCast, infer}
 
 -- ------------------------------------------------------------------------------------------------
 -- The pieces of `infer`, read back

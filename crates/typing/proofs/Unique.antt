@@ -4,7 +4,8 @@ use Rattle.base.proofs.Unique.{OneAnswer, is-unique}
 use Rattle.typing.proofs as typing
 
 pub ops-unique :
-    OneAnswer (typing.ops.load.Reads.Post tt)
+    OneAnswer (typing.ops.is_type.Reads.Post tt)
+    × OneAnswer (typing.ops.load.Reads.Post tt)
     × OneAnswer (typing.ops.store.Reads.Post tt)
     × OneAnswer (typing.ops.binary.Reads.Post tt)
     × OneAnswer (typing.ops.unary.Reads.Post tt)
@@ -14,6 +15,7 @@ pub ops-unique :
     × OneAnswer (typing.ops.extract.Reads.Post tt)
     × OneAnswer (typing.ops.concat.Reads.Post tt)
 ops-unique = (
+  λ a x y s. is-unique,
   λ a x y s. is-unique,
   λ a x y s. is-unique,
   λ a x y s. is-unique,

@@ -7,7 +7,7 @@ use Rattle.table.specs.declared.Node.{Node}
 use Rattle.table.specs.Decode.{Context, unknownType}
 use Rattle.typing.specs.declared.Typed.{Typed}
 use Rattle.typing.specs.declared.Typed.the-variants.{Of, Untyped}
-use Rattle.typing.specs.Verdict.{loadType, storeType, binaryType, unaryType, castType, letType, iteType, extractType, concatType}
+use Rattle.typing.specs.Infer.{loadType, storeType, binaryType, unaryType, castType, letType, iteType, extractType, concatType}
 
 unfoldable pub leaves : List (ℕ × (Context → Node → Typed))
 leaves = (1, λ Γ r. Of (Γ .type (r .a))) ∷ (2, λ Γ r. Of (Imm (r .p))) ∷ (9, λ Γ r. Of (unknownType r)) ∷ []

@@ -1,3 +1,4 @@
 pub mod ByOp
+pub mod Infer
 pub mod Typing
 pub mod Verdict

@@ -2,8 +2,8 @@
 ghost use mathlib.Core.Path.{_≡_};
 ghost use Prim.Native.Nat.{_+_, _-_, _≤_};
 ghost use Rattle.value.specs.declared.ValueType.the-variants.{Imm};
-ghost use Rattle.typing.specs.Verdict as Verdict;
-ghost use Rattle.typing.specs.Verdict.{sameType};
+ghost use Rattle.typing.specs.Infer as Infer;
+ghost use Rattle.typing.specs.Infer.{sameType, isType};
 ghost use Rattle.typing.specs.declared.Typed.the-variants.{Of};
 use crate::Typed;
 use value::ValueType;
@@ -24,16 +24,26 @@ fn same(t: ValueType, u: ValueType) -> bool
     }
 }
 
+// Was this type found?
+pub fn is_type(t: ValueType, o: Typed) -> bool
+    ensures { λ r. ⌜ r ≡ isType t o ⌝ }
+{
+    match o {
+        Typed::Of(u) => same(u, t),
+        Typed::Untyped => false,
+    }
+}
+
 // The type, where a test passes.
 fn when(b: bool, t: ValueType) -> Typed
-    ensures { λ r. ⌜ r ≡ Verdict.when b (Of t) ⌝ }
+    ensures { λ r. ⌜ r ≡ Infer.when b (Of t) ⌝ }
 {
     if b { Typed::Of(t) } else { Typed::Untyped }
 }
 
 // May a cast go from w bits to p?
 fn may_cast(sub: u32, w: u32, p: u32) -> bool
-    ensures { λ r. ⌜ r ≡ Verdict.mayCast sub w p ⌝ }
+    ensures { λ r. ⌜ r ≡ Infer.mayCast sub w p ⌝ }
 {
     if sub <= word::subs::HIGH {
         p <= w
@@ -44,7 +54,7 @@ fn may_cast(sub: u32, w: u32, p: u32) -> bool
 
 // The type of w bits joined with v.
 fn joined(w: u32, v: u32) -> Typed
-    ensures { λ r. ⌜ r ≡ Verdict.concatType (Of (Imm w)) (Of (Imm v)) ⌝ }
+    ensures { λ r. ⌜ r ≡ Infer.concatType (Of (Imm w)) (Of (Imm v)) ⌝ }
 {
     if 64 < w {
         return Typed::Untyped;
@@ -57,7 +67,7 @@ fn joined(w: u32, v: u32) -> Typed
 
 // A load of z bits at an address.
 pub fn load(z: u32, m: ValueType, e: ValueType) -> Typed
-    ensures { λ r. ⌜ r ≡ Verdict.loadType z (Of m) (Of e) ⌝ }
+    ensures { λ r. ⌜ r ≡ Infer.loadType z (Of m) (Of e) ⌝ }
 {
     match m {
         ValueType::Imm(_) => Typed::Untyped,
@@ -67,7 +77,7 @@ pub fn load(z: u32, m: ValueType, e: ValueType) -> Typed
 
 // A store of a value of z bits at an address.
 pub fn store(z: u32, m: ValueType, e: ValueType, v: ValueType) -> Typed
-    ensures { λ r. ⌜ r ≡ Verdict.storeType z (Of m) (Of e) (Of v) ⌝ }
+    ensures { λ r. ⌜ r ≡ Infer.storeType z (Of m) (Of e) (Of v) ⌝ }
 {
     match m {
         ValueType::Imm(_) => Typed::Untyped,
@@ -81,7 +91,7 @@ pub fn store(z: u32, m: ValueType, e: ValueType, v: ValueType) -> Typed
 
 // A binary operation.
 pub fn binary(sub: u32, e: ValueType, f: ValueType) -> Typed
-    ensures { λ r. ⌜ r ≡ Verdict.binaryType sub (Of e) (Of f) ⌝ }
+    ensures { λ r. ⌜ r ≡ Infer.binaryType sub (Of e) (Of f) ⌝ }
 {
     match e {
         ValueType::Imm(w) => when(same(f, e), ValueType::Imm(value::binary_width(sub, w))),
@@ -91,7 +101,7 @@ pub fn binary(sub: u32, e: ValueType, f: ValueType) -> Typed
 
 // A negation or a complement.
 pub fn unary(e: ValueType) -> Typed
-    ensures { λ r. ⌜ r ≡ Verdict.unaryType (Of e) ⌝ }
+    ensures { λ r. ⌜ r ≡ Infer.unaryType (Of e) ⌝ }
 {
     match e {
         ValueType::Imm(w) => Typed::Of(ValueType::Imm(w)),
@@ -101,7 +111,7 @@ pub fn unary(e: ValueType) -> Typed
 
 // A cast to p bits.
 pub fn cast(sub: u32, p: u32, e: ValueType) -> Typed
-    ensures { λ r. ⌜ r ≡ Verdict.castType sub p (Of e) ⌝ }
+    ensures { λ r. ⌜ r ≡ Infer.castType sub p (Of e) ⌝ }
 {
     match e {
         ValueType::Imm(w) => when(may_cast(sub, w, p), ValueType::Imm(p)),
@@ -111,14 +121,14 @@ pub fn cast(sub: u32, p: u32, e: ValueType) -> Typed
 
 // A let of a variable of type t.
 pub fn lets(t: ValueType, e: ValueType, f: ValueType) -> Typed
-    ensures { λ r. ⌜ r ≡ Verdict.letType t (Of e) (Of f) ⌝ }
+    ensures { λ r. ⌜ r ≡ Infer.letType t (Of e) (Of f) ⌝ }
 {
     when(same(e, t), f)
 }
 
 // A choice.
 pub fn ite(c: ValueType, e: ValueType, f: ValueType) -> Typed
-    ensures { λ r. ⌜ r ≡ Verdict.iteType (Of c) (Of e) (Of f) ⌝ }
+    ensures { λ r. ⌜ r ≡ Infer.iteType (Of c) (Of e) (Of f) ⌝ }
 {
     if same(c, ValueType::Imm(1)) {
         when(same(e, f), e)
@@ -131,7 +141,7 @@ pub fn ite(c: ValueType, e: ValueType, f: ValueType) -> Typed
 pub fn extract(p: u32, q: u32, e: ValueType) -> Typed
     requires { ⌜ q ≤ p ⌝ }
     requires { ⌜ p ≤ q + 63 ⌝ }
-    ensures { λ r. ⌜ r ≡ Verdict.extractType p q (Of e) ⌝ }
+    ensures { λ r. ⌜ r ≡ Infer.extractType p q (Of e) ⌝ }
 {
     match e {
         ValueType::Imm(_) => Typed::Of(ValueType::Imm(p - q + 1)),
@@ -141,7 +151,7 @@ pub fn extract(p: u32, q: u32, e: ValueType) -> Typed
 
 // Two words as one, of 64 bits at most.
 pub fn concat(e: ValueType, f: ValueType) -> Typed
-    ensures { λ r. ⌜ r ≡ Verdict.concatType (Of e) (Of f) ⌝ }
+    ensures { λ r. ⌜ r ≡ Infer.concatType (Of e) (Of f) ⌝ }
 {
     match e {
         ValueType::Imm(w) => match f {

@@ -7,7 +7,6 @@ use lib.Dec.{eqb, leb, lit≤}
 use Rattle.base.specs.Choice.{if_then_else_}
 use Rattle.word.specs.declared.Computed as C
 use Rattle.word.specs.declared.Computed.the-variants as CV
-use Rattle.word.specs.Words as Words
 use Rattle.word.specs.Words.{Width, IsWord, AreWords, FitsIn}
 use Rattle.word.proofs.FitLaws.{mod-fits, concat-fits}
 use Rattle.word.proofs.SubLaws.{binary-fits, unary-fits, cast-fits}

@@ -18,45 +18,27 @@ depthsOf s o = map (λ k. getD (s .args .depths .now) k 0) (listed o)
 done : (s : tie.Start) (o : Operands) {r : ℕ} → s .args .o ≡ o → r ≡ largest (depthsOf s o) → r ≡ largest (depthsOf s (s .args .o))
 done s o {r} e = subst (λ (o : Operands). r ≡ largest (depthsOf s o)) (sym e)
 
-kept-requires : tie.Need-kept-requires
-kept-requires c κs = first-below (below-case (c .before .o .given .1) (c .before .before .before .pre))
-
-kept-requires-2 : tie.Need-kept-requires-2
-kept-requires-2 c κs = first-below (below-case (c .before .o2 .given .1) (c .before .before .before .pre))
-
-kept-requires-3 : tie.Need-kept-requires-3
-kept-requires-3 c κs = first-below (rest-below (below-case (c .before .before .o2 .given .1) (c .before .before .before .before .pre)))
-
-kept-requires-4 : tie.Need-kept-requires-4
-kept-requires-4 c κs = first-below (below-case (c .before .o3 .given .1) (c .before .before .before .pre))
-
-kept-requires-5 : tie.Need-kept-requires-5
-kept-requires-5 c κs = first-below (rest-below (below-case (c .before .before .o3 .given .1) (c .before .before .before .before .pre)))
-
-kept-requires-6 : tie.Need-kept-requires-6
-kept-requires-6 c κs =
-    first-below (rest-below (rest-below (below-case (c .before .before .before .o3 .given .1) (c .before .before .before .before .before .pre))))
-
 returns : tie.Need-returns
 unfolding largest
-returns c = done (c .before .before) _ (c .enum-told .given .1) refl
+returns c = done (c .before .before .before) _ (c .enum-told .given .1) refl
 
 returns-2 : tie.Need-returns-2
 unfolding largest
-returns-2 c = done (c .before .before .before .before) _ (c .before .before .o .given .1) (c .kept .ensures ∙ sym (max-zero _))
+returns-2 c = done (c .before .before .before .before .before) _ (c .before .before .o .given .1) (c .kept .ensures ∙ sym (max-zero _))
 
 returns-3 : tie.Need-returns-3
 unfolding largest
 returns-3 c =
-    done (c .before .before .before .before .before .before) _ (c .before .before .before .before .o2 .given .1)
+    done (c .before .before .before .before .before .before .before) _ (c .before .before .before .before .o2 .given .1)
     (c .larger .ensures ∙ ap₂ max (c .before .before .kept2 .ensures) (c .before .kept3 .ensures ∙ sym (max-zero _)))
 
 returns-4 : tie.Need-returns-4
 unfolding largest
 returns-4 c =
-    done (c .before .before .before .before .before .before .before .before) _ (c .before .before .before .before .before .before .o3 .given .1)
+    let k = c .before .before .before .before in
+    done (k .before .before .before .before .before) _ (k .before .before .o3 .given .1)
     (c .larger3 .ensures
-    ∙ ap₂ max (c .before .before .before .before .kept4 .ensures)
+    ∙ ap₂ max (k .kept4 .ensures)
     (c .before .larger2 .ensures ∙ ap₂ max (c .before .before .before .kept5 .ensures) (c .before .before .kept6 .ensures ∙ sym (max-zero _))))
 
 pub deepest-spec : {M : Type 1} → statement M
@@ -65,15 +47,16 @@ deepest-spec =
     (tie.spec
     (λ c. search needs)
     (λ c. search needs)
-    kept-requires
+    (λ c κs. first-below (below-case (c .before .o .given .1) (c .before .before .before .before .pre)))
     (λ c. search needs)
-    kept-requires-2
-    kept-requires-3
+    (λ c κs. first-below (below-case (c .before .o2 .given .1) (c .before .before .before .before .pre)))
+    (λ c κs. first-below (rest-below (below-case (c .before .before .o2 .given .1) (c .before .before .before .before .before .pre))))
     (λ c κs. search needs)
     (λ c. search needs)
-    kept-requires-4
-    kept-requires-5
-    kept-requires-6
+    (λ c κs. first-below (below-case (c .before .o3 .given .1) (c .before .before .before .before .pre)))
+    (λ c κs. first-below (rest-below (below-case (c .before .before .o3 .given .1) (c .before .before .before .before .before .pre))))
+    (λ c κs. let o = c .before .before .before in
+    first-below (rest-below (rest-below (below-case (o .o3 .given .1) (o .before .before .before .pre)))))
     (λ c κs. search needs)
     (λ c κs. search needs)
     returns

@@ -18,26 +18,18 @@ Inv-loop counts n i₀ i = (i ≤ n) × HoldsBelow (countRule counts n .holds) i
 abbrev μ-loop : tie.MeasureT-loop
 μ-loop counts n i₀ i = n - i
 
-loop-holds : tie.Need-loop-holds Inv-loop μ-loop
-loop-holds c = (omega arith, below-none _)
-
 returns : tie.Need-returns Inv-loop μ-loop
 returns c =
     let l = c .before .before .before .loop in
-    let a = c .before .before .before .before .args in
+    let a = c .before .before .before .before .before .args in
     let other : getD (a .counts .now) (l .i) 0 ≡ 1 → ⊥ = λ e. omega arith in
-    sym (one-rule-refused (countRule (a .counts .now) (a .n)) (l .i) (c .before .before .loop-test .taken) (l .inv .1) (ne-eqb _ _ other))
+    sym (one-rule-refused (countRule (a .counts .now) _) (l .i) (c .before .before .loop-test .taken) (l .inv .1) (ne-eqb _ _ other))
 
 loop-again : tie.Need-loop-again Inv-loop μ-loop
 loop-again c =
     let l = c .before .before .before .loop in
-    let once : getD (c .before .before .before .before .args .counts .now) (l .i) 0 ≡ 1 = omega arith in
+    let once : getD (c .before .before .before .before .before .args .counts .now) (l .i) 0 ≡ 1 = omega arith in
     (omega arith, below-more _ _ (l .inv .1) (eq-eqb _ _ once))
-
-returns-2 : tie.Need-returns-2 Inv-loop μ-loop
-returns-2 c =
-    let a = c .before .before .args in
-    sym (one-rule-accepted (countRule (a .counts .now) (a .n)) (λ i h. c .before .loop .inv .1 i (omega arith)))
 
 pub lowest-spec : {M : Type 1} → statement M
 lowest-spec =
@@ -45,7 +37,8 @@ lowest-spec =
     (tie.spec
     Inv-loop
     μ-loop
-    loop-holds
+    (λ c. search needs)
+    (λ c. (omega arith, below-none _))
     (λ c. search needs)
     (λ c. search needs)
     (λ c. search needs)
@@ -53,4 +46,4 @@ lowest-spec =
     (λ c. search needs)
     (λ c. search needs)
     loop-again
-    returns-2)
+    (λ c. sym (one-rule-accepted (countRule (c .before .before .before .args .counts .now) _) (λ i h. c .before .loop .inv .1 i (omega arith)))))

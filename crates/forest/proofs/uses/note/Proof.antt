@@ -5,19 +5,14 @@ use Rattle.forest.proofs.CountLaws.{counted-one}
 use Rattle.forest.proofs.uses.note.Statement.{statement}
 use Rattle.forest.proofs.uses.note.Tie as tie
 
-add-counts : tie.Need-add-counts
-add-counts c = omega (arith, c .before .pre .1 .each (c .before .args .k))
-
-returns : tie.Need-returns
-returns c = let s = c .before in counted-one (s .args .counts .now) (s .args .k) (omega arith)
-
 pub note-spec : {M : Type 1} → statement M
 note-spec =
     tie.close
     (tie.spec
     (λ c. search needs)
     (λ c. search needs)
-    add-counts
+    (λ c. omega (arith, c .before .pre .1 .each (c .before .args .k)))
     (λ c. search needs)
     (λ c. search needs)
-    returns)
+    (λ c. search needs)
+    (λ c. let s = c .before in counted-one (s .args .counts .now) (s .args .k) (omega arith)))

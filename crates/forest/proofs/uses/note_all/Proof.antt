@@ -1,70 +1,49 @@
--- `uses::note_all`: one note after the other, each operand below 2,048 and the counters far from their limit. Assumes nothing.
+-- `uses::note_all`: one note after the other, each operand with a counter and the counters far from their limit. Assumes nothing.
 use mathlib.Core.Path.{_≡_, subst, sym}
-use mathlib.Core.List.{List}
-use Prim.Native.Nat.{ℕ, _-_, _^_}
+use mathlib.Core.List.{List, _∷_}
+use Prim.Native.Nat.{ℕ, _-_, _^_, _≤_, _<_}
 use native.Mathlib.Omega.{arith}
+use lib.ListN.{length}
 use borrow.Author.Needs.{needs}
 use Rattle.forest.specs.declared.operands.Operands.{Operands}
-use Rattle.forest.specs.Counting.{listed, Counted, Counters}
+use Rattle.forest.specs.Counting.{listed, AllBelow, Counted, Counters}
 use Rattle.forest.proofs.CountLaws.{counted-none, counted-then, counters-on}
 use Rattle.forest.proofs.OperandLaws.{below-case, first-below, rest-below}
 use Rattle.forest.proofs.uses.note_all.Statement.{statement}
 use Rattle.forest.proofs.uses.note_all.Tie as tie
 
--- the counters at the first note
-room : (s : tie.Start) → Counters (2 ^ 32 - 2) (s .args .counts .now)
-room s = counters-on (2 ^ 32 - 2) (s .pre .1) counted-none (omega arith)
+-- what a note of k asks, when the operands before it are counted
+room : (s : tie.Start) {o : Operands} {k : ℕ} {js ks last : List ℕ} → s .args .o ≡ o
+    → (AllBelow (length (s .args .counts .now)) (listed o) → AllBelow (length (s .args .counts .now)) (k ∷ ks))
+    → Counted (s .args .counts .now) last js → length js ≤ 2 → (k < length last) × Counters (2 ^ 16 - 2) last
+room s e rest f short =
+    let long = f .long in
+    let inside = first-below (rest (below-case e (s .pre .0))) in
+    (omega arith, counters-on (2 ^ 16 - 2) (s .pre .1) f (omega arith))
 
 done : (s : tie.Start) {o : Operands} {last : List ℕ} → s .args .o ≡ o → Counted (s .args .counts .now) last (listed o)
     → Counted (s .args .counts .now) last (listed (s .args .o))
 done s {last = last} e = subst (λ (o : Operands). Counted (s .args .counts .now) last (listed o)) (sym e)
 
-note-requires : tie.Need-note-requires
-note-requires c κs = let s = c .before .before .before .before in (first-below (below-case (c .before .before .o .given .1) (s .pre .0)), room s)
-
-note-requires-2 : tie.Need-note-requires-2
-note-requires-2 c κs = let s = c .before .before .before .before in (first-below (below-case (c .before .before .o2 .given .1) (s .pre .0)), room s)
-
-note-requires-3 : tie.Need-note-requires-3
-note-requires-3 c κs =
-    let s = c .before .before .before .before .before .before in (
-      first-below (rest-below (below-case (c .before .before .before .before .o2 .given .1) (s .pre .0))),
-      counters-on (2 ^ 32 - 2) (s .pre .1) (c .before .note2 .ensures) (omega arith),
-    )
-
-note-requires-4 : tie.Need-note-requires-4
-note-requires-4 c κs = let s = c .before .before .before .before in (first-below (below-case (c .before .before .o3 .given .1) (s .pre .0)), room s)
-
-note-requires-5 : tie.Need-note-requires-5
-note-requires-5 c κs =
-    let s = c .before .before .before .before .before .before in (
-      first-below (rest-below (below-case (c .before .before .before .before .o3 .given .1) (s .pre .0))),
-      counters-on (2 ^ 32 - 2) (s .pre .1) (c .before .note4 .ensures) (omega arith),
-    )
-
 note-requires-6 : tie.Need-note-requires-6
 note-requires-6 c κs =
-    let s = c .before .before .before .before .before .before .before .before in (
-      first-below (rest-below (rest-below (below-case (c .before .before .before .before .before .before .o3 .given .1) (s .pre .0)))),
-      counters-on (2 ^ 32 - 2) (s .pre .1) (counted-then (c .before .before .before .note4 .ensures) (c .before .note5 .ensures)) (omega arith),
-    )
-
-returns : tie.Need-returns
-returns c = done (c .before .before) (c .enum-told .given .1) counted-none
-
-returns-2 : tie.Need-returns-2
-returns-2 c = done (c .before .before .before .before .before) (c .before .before .before .o .given .1) (c .note .ensures)
+    let n = c .before .before .before in
+    let o = n .before .before .before .before .before .before .before in
+    let both = counted-then (n .before .before .before .before .note4 .ensures) (n .note5 .ensures) in
+    room (o .before .before .before) (o .o3 .given .1) (λ b. rest-below (rest-below b)) both (omega arith)
 
 returns-3 : tie.Need-returns-3
 returns-3 c =
-    done (c .before .before .before .before .before .before .before) (c .before .before .before .before .before .o2 .given .1)
-    (counted-then (c .before .before .note2 .ensures) (c .note3 .ensures))
+    let n = c .before .before .before .before .before .before in
+    let o = n .before .before .before in
+    done (o .before .before .before) (o .o2 .given .1) (counted-then (n .note2 .ensures) (c .before .before .note3 .ensures))
 
 returns-4 : tie.Need-returns-4
 returns-4 c =
-    let s = c .before .before .before .before .before .before .before .before .before in
-    done s (c .before .before .before .before .before .before .before .o3 .given .1)
-    (counted-then (c .before .before .before .before .note4 .ensures) (counted-then (c .before .before .note5 .ensures) (c .note6 .ensures)))
+    let n = c .before .before .before .before .before .before .before .before .before .before in
+    let o = n .before .before .before in
+    let both = counted-then (c .before .before .before .before .before .before .note5 .ensures) (c .before .before .note6 .ensures) in
+    done (o .before .before .before) (o .o3 .given .1) (counted-then (n .note4 .ensures) both)
 
 pub note-all-spec : {M : Type 1} → statement M
 note-all-spec =
@@ -72,15 +51,20 @@ note-all-spec =
     (tie.spec
     (λ c. search needs)
     (λ c. search needs)
-    note-requires
+    (λ c κs. room (c .before .before .before .before .before) (c .before .before .o .given .1) (λ b. b) counted-none (omega arith))
     (λ c. search needs)
-    note-requires-2
-    note-requires-3
+    (λ c κs. room (c .before .before .before .before .before) (c .before .before .o2 .given .1) (λ b. b) counted-none (omega arith))
+    (λ c κs. let n = c .before .before .before in let o = n .before .before .before in
+    room (o .before .before .before) (o .o2 .given .1) rest-below (n .note2 .ensures) (omega arith))
     (λ c. search needs)
-    note-requires-4
-    note-requires-5
+    (λ c κs. room (c .before .before .before .before .before) (c .before .before .o3 .given .1) (λ b. b) counted-none (omega arith))
+    (λ c κs. let n = c .before .before .before in let o = n .before .before .before in
+    room (o .before .before .before) (o .o3 .given .1) rest-below (n .note4 .ensures) (omega arith))
     note-requires-6
-    returns
-    returns-2
+    (λ c. done (c .before .before .before) (c .enum-told .given .1) counted-none)
+    (λ c. search needs)
+    (λ c. let n = c .before .before in done (n .before .before .before .before .before .before) (n .before .before .before .o .given .1) (n .note .ensures))
+    (λ c. search needs)
     returns-3
+    (λ c. search needs)
     returns-4)

@@ -3,7 +3,7 @@ use mathlib.Core.Path.{refl, ap, _∙_}
 use borrow.Author.Needs.{needs}
 use Rattle.base.proofs.NumberedLaws.{numbered-other}
 use Rattle.typing.specs.declared.Typed.the-variants.{Of, Untyped}
-use Rattle.typing.specs.Verdict.{letType}
+use Rattle.typing.specs.Infer.{letType}
 use Rattle.typing.specs.ByOp.{twos, twoType}
 use Rattle.typing.proofs.by_op.two.Statement.{statement}
 use Rattle.typing.proofs.by_op.two.Tie as tie

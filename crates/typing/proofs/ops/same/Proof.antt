@@ -1,7 +1,7 @@
 -- `typing::ops::same`: case by case. Assumes nothing.
 use mathlib.Core.Path.{ap₂, sym}
 use borrow.Author.Needs.{needs}
-use Rattle.typing.specs.Verdict.{sameType}
+use Rattle.typing.specs.Infer.{sameType}
 use Rattle.typing.proofs.ops.same.Statement.{statement}
 use Rattle.typing.proofs.ops.same.Tie as tie
 

@@ -1,0 +1,12 @@
+-- `bil::bil_seal_code`: the code of the seal check's answer. Assumes nothing.
+use mathlib.Core.Path.{ap, _∙_}
+use borrow.Author.Needs.{needs}
+use Rattle.base.specs.Refusals.{codeOf}
+use Rattle.bil.proofs.bil_seal_code.Statement.{statement}
+use Rattle.bil.proofs.bil_seal_code.Tie as tie
+
+returns : tie.Need-returns
+returns c = c .code-of .ensures ∙ ap codeOf (c .before .seal-check .ensures)
+
+pub bil-seal-code-spec : {M : Type 1} → statement M
+bil-seal-code-spec = tie.close (tie.spec (λ c κs. search needs) (λ c κs. search needs) returns)

@@ -1,0 +1,3 @@
+pub mod OwnerLaws
+pub mod StatementLaws
+pub mod Unique

@@ -1,0 +1,12 @@
+-- `scope::store`: one place of the slice. Assumes nothing.
+use native.Mathlib.Omega.{arith}
+use borrow.Author.Needs.{needs}
+use Rattle.forest.proofs.HandingLaws.{stored-one}
+use Rattle.forest.proofs.scope.store.Statement.{statement}
+use Rattle.forest.proofs.scope.store.Tie as tie
+
+returns : tie.Need-returns
+returns c = stored-one (c .args .lets .now) (c .args .k) (c .args .v) (omega arith)
+
+pub store-spec : {M : Type 1} → statement M
+store-spec = tie.close (tie.spec (λ c. search needs) (λ c. search needs) (λ c. search needs) returns)

@@ -1,0 +1,4 @@
+pub mod OperandLabels
+pub mod StatementLabels
+pub mod Unique
+pub mod VerdictLaws

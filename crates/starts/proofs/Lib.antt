@@ -1,0 +1,4 @@
+pub mod EntryLaws
+pub mod NumberLaws
+pub mod PairLaws
+pub mod Unique
