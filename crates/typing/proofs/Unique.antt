@@ -30,11 +30,13 @@ ops-unique = (
 pub by-op-unique : (lent : Lfts 1) →
     OneAnswer (typing.by_op.declared.Reads.Post tt)
     × OneAnswer (typing.by_op.type_of.Reads.Post lent)
+    × OneAnswer (typing.by_op.unknown.Reads.Post tt)
     × OneAnswer (typing.by_op.leaf.Reads.Post lent)
     × OneAnswer (typing.by_op.one.Reads.Post tt)
     × OneAnswer (typing.by_op.two.Reads.Post lent)
     × OneAnswer (typing.by_op.three.Reads.Post tt)
 by-op-unique lent = (
+  λ a x y s. is-unique,
   λ a x y s. is-unique,
   λ a x y s. is-unique,
   λ a x y s. is-unique,

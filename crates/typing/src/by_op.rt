@@ -35,7 +35,7 @@ pub fn type_of(s: &[u8], h: Header, x: u32) -> ValueType
 }
 
 // The type that an unknown's record names.
-fn unknown(r: Node) -> ValueType
+pub fn unknown(r: Node) -> ValueType
     ensures { λ t. ⌜ t ≡ Decode.unknownType r ⌝ }
 {
     if r.q == 0 {

@@ -1,0 +1,2 @@
+// Evaluation: the value of an expression under the bindings in force, in a state and a log.
+pub mod walk;

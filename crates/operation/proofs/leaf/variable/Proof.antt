@@ -1,0 +1,54 @@
+-- `leaf::variable`: by whether a binding was found. Assumes nothing.
+use mathlib.Core.Path.{_≡_, sym, ap, _∙_}
+use native.Mathlib.Omega.{arith}
+use borrow.Author.Needs.{needs}
+use Rattle.value.specs.declared.ValueType.{ValueType}
+use Rattle.value.specs.declared.Value.{Value}
+use Rattle.table.specs.Decode.{context}
+use Rattle.evaluation.specs.State.{inState}
+use Rattle.bindings.specs.declared.Found.{Found}
+use Rattle.bindings.specs.Bound.{bindingsOf, found}
+use Rattle.bindings.proofs.BoundLaws.{look-found, valueIn}
+use Rattle.operation.proofs.leaf.variable.Statement.{statement}
+use Rattle.operation.proofs.leaf.variable.Tie as tie
+
+-- what the state has
+abbrev free : tie.Start → Value
+free s = inState (s .args .state .now) (context (s .args .s .now) .type (s .args .x)) (s .args .x)
+
+-- what is looked up, by what was found
+met : (s : tie.Start) {f g : Found} → f ≡ found (bindingsOf (s .args .bindings)) (s .args .x) → f ≡ g
+    → valueIn (free s) g ≡ valueIn (free s) (found (bindingsOf (s .args .bindings)) (s .args .x))
+met s is e = ap (valueIn (free s)) (sym e ∙ is)
+
+read-requires : tie.Need-read-requires
+read-requires c κs =
+    let s = c .before .before .before .before .before .before in
+    let long = s .pre .1 .0 in
+    let named = s .pre .1 .1 .1 in
+    omega arith
+
+returns : tie.Need-returns
+returns c =
+    let s = c .before .before .before .before .before .before in
+    met s (c .before .before .before .find .ensures) (c .before .f .given .1) ∙ sym (look-found (bindingsOf (s .args .bindings)) (free s) (s .args .x))
+
+returns-2 : tie.Need-returns-2
+returns-2 c =
+    let s = c .before .before .before .before .before .before .before in
+    c .read .ensures
+    ∙ ap (λ (t : ValueType). inState (s .args .state .now) t (s .args .x)) (c .before .type-of .ensures)
+    ∙ met s (c .before .before .before .before .find .ensures) (c .before .before .enum-told .given .1)
+    ∙ sym (look-found (bindingsOf (s .args .bindings)) (free s) (s .args .x))
+
+pub variable-spec : {M : Type 1} → statement M
+variable-spec =
+    tie.close
+    (tie.spec
+    (λ c κs. search needs)
+    (λ c. search needs)
+    (λ c. search needs)
+    (λ c κs. search needs)
+    read-requires
+    returns
+    returns-2)

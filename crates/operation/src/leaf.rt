@@ -1,0 +1,58 @@
+// Expressions without operands.
+ghost use mathlib.Core.Path.{_≡_};
+ghost use Prim.Native.Nat.{_*_, _≤_, _<_};
+ghost use lib.ListN.{length};
+ghost use Rattle.table.specs.Records.{Framed};
+ghost use Rattle.table.specs.Fields.{wordValue};
+ghost use Rattle.table.specs.Decode.{context};
+ghost use Rattle.evaluation.specs.State.{inState};
+ghost use Rattle.evaluation.specs.Evaluation.{look, mostBindings};
+ghost use Rattle.bindings.specs.Bound.{bindingsOf};
+ghost use Rattle.operation.specs.ByOp.{leafValue};
+use bindings::Bindings;
+use bindings::Found;
+use table::Header;
+use table::Node;
+use table::ops;
+use typing::by_op;
+use value::Value;
+use value::ValueType;
+
+// The word of a record, in two numbers of 32 bits.
+fn word_value(r: Node) -> u64
+    ensures { λ v. ⌜ v ≡ wordValue r ⌝ }
+{
+    (r.b as u64) + 4294967296 * (r.c as u64)
+}
+
+// The value of a variable: what it is bound to, else what the state has.
+fn variable(s: &[u8], h: Header, state: &[u64], bindings: Bindings, x: u32) -> Value
+    requires { ⌜ Framed (now s) h ⌝ }
+    requires { ⌜ 2 * h .variables ≤ length (now state) ⌝ }
+    requires { ⌜ bindings .count ≤ mostBindings ⌝ }
+    requires { ⌜ x < h .variables ⌝ }
+    ensures { λ r. ⌜ r ≡ look (bindingsOf bindings) (inState (now (state .entry)) (context (now (s .entry)) .type x) x) x ⌝ }
+{
+    let f = bindings.find(x);
+    match f {
+        Found::Bound(v) => v,
+        Found::Free => states::read(state, by_op::type_of(s, h, x), x),
+    }
+}
+
+// The value of a record without operands.
+pub fn leaf(s: &[u8], h: Header, state: &[u64], bindings: Bindings, r: Node) -> Value
+    requires { ⌜ Framed (now s) h ⌝ }
+    requires { ⌜ 2 * h .variables ≤ length (now state) ⌝ }
+    requires { ⌜ bindings .count ≤ mostBindings ⌝ }
+    requires { ⌜ (r .op ≡ 1 → r .a < h .variables) ⌝ }
+    ensures { λ v. ⌜ v ≡ leafValue (context (now (s .entry))) (now (state .entry)) r (bindingsOf bindings) ⌝ }
+{
+    let op = r.op;
+    match op {
+        ops::VAR => variable(s, h, state, bindings, r.a),
+        ops::WORD => Value::Word(r.p, word_value(r)),
+        ops::UNKNOWN => Value::Unknown(by_op::unknown(r)),
+        _ => Value::Unknown(ValueType::Imm(1)),
+    }
+}
