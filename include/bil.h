@@ -1,12 +1,13 @@
 /*
- * bil.h: the word operations of BIL and the verdicts of its tables, from the proved library libbil.a.
+ * bil.h: the word operations of BIL, the verdicts of its tables and their run, from the proved library libbil.a.
  *
  * `rt staticlib bil` writes target/staticlib/libbil.a, an archive for x86-64 Linux in the C calling form. To use it:
  *
  *     gcc -Iinclude program.c target/staticlib/libbil.a
  *
- * The functions keep no state, write no memory of the caller and always return the same answer to the same arguments,
- * so any number of threads may call them at once. None of them allocates.
+ * The functions keep no state and always return the same answer to the same arguments. None writes memory of the
+ * caller, save bil_run, which writes the three buffers that it is lent for that. So any number of threads may call them
+ * at once, bil_run with buffers of their own. None of them allocates.
  */
 #ifndef BIL_H
 #define BIL_H
@@ -86,7 +87,8 @@ enum bil_code {
     BIL_USES = 8,           /* not used exactly once; the expression */
     BIL_DEPTH = 9,          /* over 64 deep; the expression */
     BIL_NESTING = 10,       /* a nesting over 32; the statement */
-    BIL_SCOPE = 11,         /* a let variable read outside its let, a let in another of its variable; the inner one */
+    BIL_SCOPE = 11,         /* a let variable read outside its let's body, a let in the body of another of its variable; the
+                               var, or the inner let */
     BIL_TYPE = 12,          /* no type; the expression */
     BIL_STATEMENT_TYPE = 13, /* a move, jump or guard of the wrong type; the statement */
     BIL_SEAL = 14,          /* a sealed address, a sealed value let into an open variable; the load, store or let */
@@ -100,6 +102,57 @@ uint32_t bil_check_place(const uint8_t *table, size_t length);
 /* The seal check: the same verdict and, for a table that is accepted, BIL_SEAL and BIL_STATEMENT_SEAL too. */
 uint32_t bil_seal_code(const uint8_t *table, size_t length);
 uint32_t bil_seal_place(const uint8_t *table, size_t length);
+
+/*
+ * The run of a table. Its caller lends the table's bytes as above, and three buffers of 64-bit numbers, each with its
+ * size in numbers. A buffer may be NULL where its size is 0, and nowhere else. The caller sees to it that so many
+ * numbers are there, that the three share no memory with each other or with the table, and that no one else uses them
+ * during the call.
+ *
+ *     state  two numbers a variable: 0, 0 absent; 1, word; 2, 0 unknown; 3, head of a memory, an entry of the log
+ *     log    room for entries of four numbers: previous entry (0 or a lower number; entries count from 1), address
+ *            width, address, byte (256: unknown); at most 65,536 entries
+ *     out    five numbers, which the call writes: code, place, ticks, log count, next address
+ *
+ * `log_count` is how many entries the log has, `next` the next address, and `budget` the most ticks that the run may
+ * take. Any contents and any numbers may be lent: bad ones are answered by a code. What a run leaves can be lent again.
+ *
+ * The code is BIL_ACCEPTED where the run is done, one of BIL_SHORT to BIL_STATEMENT_TYPE, or one of these. From
+ * BIL_SHORT to BIL_PAIR the run was refused: state and log are unchanged, ticks are 0, log count and next address are as
+ * given. From BIL_GUARD on it stopped at the statement that is its place, the innermost one: its move isn't done, entries
+ * that it appended stay, and its tick counts, save at BIL_NO_TICK. What the run had done till then stays done.
+ */
+enum bil_run_code {
+    BIL_START = 16,         /* the size of state (place 0) or of log (1), log_count over the room (2), next (3) */
+    BIL_ENTRY = 17,         /* an entry that breaks the log's rules; the entry */
+    BIL_PAIR = 18,          /* a pair that its variable cannot have; the variable */
+    BIL_GUARD = 32,         /* a guard is unknown */
+    BIL_JUMP = 33,          /* a jump is unknown */
+    BIL_LOG_FULL = 34,      /* a byte to append, and no room; entries that the statement appended stay */
+    BIL_NO_TICK = 35,       /* a tick is needed, and none is left */
+    BIL_BINDINGS = 36       /* a let would put a 65th binding in force */
+};
+
+/* Sizes, in bytes or in numbers. */
+enum bil_size {
+    BIL_TABLE_MOST = 51232, /* bytes of the largest table: 256 variables, 2,048 expressions, 1,024 statements */
+    BIL_STATE_MOST = 512,   /* numbers of the largest state; the size lent is exactly two a variable of the table */
+    BIL_ENTRY_SIZE = 4,     /* numbers of an entry of the log; the size lent is a multiple of it */
+    BIL_LOG_MOST = 262144,  /* numbers of the largest log, 65,536 entries; 0 is a log without room */
+    BIL_OUT_SIZE = 5        /* numbers of out: code, place, ticks, log count, next address */
+};
+
+/* The first number of a variable's pair in the state. All zeros is a state in which every variable is absent. */
+enum bil_pair {
+    BIL_PAIR_ABSENT = 0,    /* with 0: never written */
+    BIL_PAIR_WORD = 1,      /* with the word, below 2^width; of immediate variables */
+    BIL_PAIR_UNKNOWN = 2,   /* with 0 */
+    BIL_PAIR_MEMORY = 3     /* with the newest entry of its chain, 1 to the log count; of memory variables */
+};
+
+/* 1, and the five numbers in out; 0 where out_size is not 5: then nothing is written anywhere. */
+uint32_t bil_run(const uint8_t *table, size_t length, uint64_t *state, size_t state_size, uint64_t *log,
+                 size_t log_size, uint64_t log_count, uint64_t next, uint32_t budget, uint64_t *out, size_t out_size);
 
 #ifdef __cplusplus
 }

@@ -3,40 +3,11 @@
  * group of rules is one pass over its records, and what later rules need of a record is kept when it is first read.
  */
 #include "peer.h"
+#include "records.h"
 
-#include <stdbool.h>
 #include <string.h>
 
 enum { VARIABLES = 256, EXPRESSIONS = 2048, STATEMENTS = 1024, DEPTH = 64, NESTING = 32 };
-
-enum { VAR = 1, WORD, LOAD, STORE, BINARY, UNARY, CAST, LET, UNKNOWN, ITE, EXTRACT, CONCAT };
-
-enum { MOVE = 1, JMP, CPUEXN, SPECIAL, WHILE, IF };
-
-/* The header and the records as they lie in the bytes: little-endian without gaps, as on x86-64. */
-struct header {
-    uint16_t format, width;
-    uint32_t variables, variables_at, expressions, expressions_at, statements, statements_at, total;
-};
-
-struct variable {
-    uint8_t kind, label, width, address_width, role, zeros[3];
-};
-
-struct expression {
-    uint8_t op, sub, p, q;
-    uint32_t a, b, c;
-};
-
-struct statement {
-    uint8_t op, zeros[3];
-    uint32_t a, b, c;
-};
-
-_Static_assert(sizeof(struct header) == 32, "a header has 32 bytes");
-_Static_assert(sizeof(struct variable) == 8, "a variable has 8 bytes");
-_Static_assert(sizeof(struct expression) == 16, "an expression has 16 bytes");
-_Static_assert(sizeof(struct statement) == 16, "a statement has 16 bytes");
 
 /* A type in a byte: an immediate is its width, 1 to 64, and a memory 64 more than its address width, 65 to 128. */
 enum { MEMORY = 64, NO_TYPE = 255 };

@@ -6,6 +6,14 @@ use Rattle.base.proofs as base
 abbrev pub OneAnswer : {A R S : Type 0} → (A → R → S → Type 0) → Type 0
 OneAnswer {A} {R} {S} Post = (a : A) (x y : R) (s : S) → Post a x s → Post a y s → x ≡ y
 
+-- of a function that gives nothing: one content of what it leaves at exit
+abbrev pub OneContent : {A R S X : Type 0} → (A → R → S → Type 0) → (S → X) → Type 0
+OneContent {A} {R} {S} Post content = (a : A) (x y : R) (s t : S) → Post a x s → Post a y t → content s ≡ content t
+
+-- of a function that gives something and leaves something: one result and one content
+abbrev pub OneOutcome : {A R S X : Type 0} → (A → R → S → Type 0) → (S → X) → Type 0
+OneOutcome {A} {R} {S} Post content = (a : A) (x y : R) (s t : S) → Post a x s → Post a y t → (x ≡ y) × (content s ≡ content t)
+
 pub is-unique : {X : Type 0} {v x y : X} → x ≡ v → y ≡ v → x ≡ y
 is-unique p q = p ∙ sym q
 

@@ -1,6 +1,11 @@
--- No second answer fits: the contract of each exported function leaves one result. Assumes nothing.
+-- No second answer fits: the contract of each exported function leaves one result, and the run's one content of each buffer. Assumes nothing.
+use mathlib.Core.Path.{ap}
+use mathlib.Core.List.{List}
+use Prim.Native.Nat.{ℕ}
 use contract.Lifetimes.{Lfts}
-use Rattle.base.proofs.Unique.{OneAnswer, is-unique}
+use denote.Ref.{now}
+use Rattle.base.proofs.Unique.{OneAnswer, OneOutcome, is-unique}
+use Rattle.bil.specs.RunCall.{Left}
 use Rattle.bil.proofs as bil
 
 pub words-unique : OneAnswer (bil.bil_word_kind.Reads.Post tt) × OneAnswer (bil.bil_word_value.Reads.Post tt)
@@ -12,3 +17,13 @@ pub checks-unique : (lent : Lfts 1) →
     × OneAnswer (bil.bil_seal_code.Reads.Post lent)
     × OneAnswer (bil.bil_seal_place.Reads.Post lent)
 checks-unique lent = (λ a x y s. is-unique, λ a x y s. is-unique, λ a x y s. is-unique, λ a x y s. is-unique)
+
+-- the contents of the state, of the log and of the five numbers
+abbrev Buffers : Type 0
+Buffers = List ℕ × List ℕ × List ℕ
+
+pub run-unique : (lent : Lfts 4) →
+    OneOutcome {X = Buffers} (bil.bil_run.Reads.Post lent) (λ s. (now (s .1 .0), now (s .1 .1 .0), now (s .1 .1 .1 .1 .1 .1 .0)))
+run-unique lent a x y s t p q =
+    let e = is-unique p q in
+    (ap (λ (l : Left). l .answer) e, ap {B = Buffers} (λ (l : Left). (l .state, l .log, l .out)) e)

@@ -1,1 +1,2 @@
+pub mod RunCall
 pub mod WordCalls

@@ -1,14 +1,18 @@
 // The library's face: what C programs call. include/bil.h declares the same functions.
 //
-// Every function takes every number and every slice of bytes that can be passed to it and asks nothing of its caller.
+// Every function takes every number and every slice that can be passed to it and asks nothing of its caller.
 ghost use mathlib.Core.Path.{_≡_};
 ghost use Rattle.base.specs.Refusals.{codeOf, placeOf};
 ghost use Rattle.sealing.specs.Verdict as Sealing;
 ghost use Rattle.typing.specs.Verdict as Typing;
+ghost use Rattle.starts.specs.Lent.{lent};
+ghost use Rattle.bil.specs.RunCall.{left, call};
 ghost use Rattle.bil.specs.WordCalls as WordCalls;
 use base::code_of;
 use base::place_of;
 use base::within;
+use runner::entry::run;
+use runner::numbers;
 use verdict::check;
 use verdict::seal_check;
 use word::Computed;
@@ -105,4 +109,33 @@ pub extern "C" fn bil_seal_place(table: &[u8]) -> u32
     ensures { λ r. ⌜ r ≡ placeOf (Sealing.sealCheck (now (table .entry))) ⌝ }
 {
     place_of(seal_check(table))
+}
+
+// The run of what is lent. In out it gives code, place, ticks, log count and next address, and the answer is 1; where out is not five
+// numbers nothing is written anywhere, and the answer is 0.
+#[no_mangle]
+pub extern "C" fn bil_run(
+    table: &[u8],
+    state: &mut [u64],
+    log: &mut [u64],
+    count: u64,
+    next: u64,
+    budget: u32,
+    out: &mut [u64],
+) -> u32
+    ensures { λ r. ⌜ left r (now (state .exit)) (now (log .exit)) (now (out .exit)) ≡ call (lent (now (table .entry)) (now (state .entry)) (now (log .entry)) count next budget) (now (out .entry)) ⌝ }
+{
+    if out.len() != 5 {
+        return 0;
+    }
+    let r = run(table, state, log, count, next, budget);
+    let ending = r.ending;
+    let code = numbers::code_of(ending);
+    let place = numbers::place_of(ending);
+    out[0] = code as u64;
+    out[1] = place as u64;
+    out[2] = r.ticks as u64;
+    out[3] = r.count;
+    out[4] = r.next;
+    1
 }

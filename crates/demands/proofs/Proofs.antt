@@ -1,23 +1,17 @@
 -- The three demands hold of the rules. Assumes nothing.
-use mathlib.Core.Path.{_≡_, sym, subst}
+use mathlib.Core.Path.{sym, subst}
 use mathlib.Core.List.{List, _++_}
 use mathlib.Core.Logic.{_↔_}
 use Prim.Native.Nat.{ℕ}
-use Rattle.base.specs.declared.Answer.the-variants.{Refused}
-use Rattle.base.specs.Refusals.{AllHold, no-rule, one-more, refusal}
+use Rattle.base.specs.Refusals.{AllHold, no-rule, one-more}
 use Rattle.base.proofs.RefusalLaws.{accepted-iff, refused-iff, all-hold-append}
 use Rattle.table.specs.Bytes.{header}
 use Rattle.table.specs.Records.{headerRules, recordRules}
 use Rattle.table.specs.Decode.{context, program}
-use Rattle.table.specs.Records.{RecordsHold}
 use Rattle.table.proofs.View.{Reads}
-use Rattle.table.proofs.RecordLaws.{records-hold-iff}
 use Rattle.table.proofs.ExpressionLaws.{expr-view}
 use Rattle.table.proofs.Program.{program-reads}
-use Rattle.forest.specs.Forest.{forestRules}
-use Rattle.typing.specs.Typing.{TypingHolds}
-use Rattle.typing.specs.Verdict.{typeRules, checkRules, check}
-use Rattle.typing.proofs.BlockLaws.{type-rules-iff}
+use Rattle.typing.specs.Verdict.{checkRules, check}
 use Rattle.typing.proofs.TypingLaws.{decides, unique}
 use Rattle.sealing.specs.Sealing.{SealHolds}
 use Rattle.sealing.specs.Verdict.{sealRules}
@@ -26,19 +20,15 @@ use Rattle.sealing.proofs.SealLaws.{label-decides, seal-rules-iff}
 use Rattle.memory.specs.Log.{entries}
 use Rattle.memory.specs.Typed.{Has}
 use Rattle.evaluation.specs.State.{inState}
-use Rattle.running.specs.Start.{Start, startRules}
-use Rattle.running.specs.Result.{runRules, Accepts, Result, ran, result, refused, nextStart}
-use Rattle.running.proofs.StartLaws.{start-rules-hold, result-ran}
-use Rattle.running.proofs.StartKeeps.{Checked, accepted-stays, types-kept}
+use Rattle.running.specs.Result.{runRules, Accepts, Result, nextStart}
+use Rattle.running.proofs.StartLaws.{start-rules-hold, result-refused, result-ran}
+use Rattle.running.proofs.StartKeeps.{types-kept}
+use Rattle.running.proofs.AcceptedLaws.{records-of, table-ok-iff, checked, table-ok, next-accepts}
 use Rattle.secrecy.proofs.Demand3.{demand-3-over-rules}
 use Rattle.demands.specs.Demands.{rules, Demand1, RulesHold, Demand2, Decided, Demand3}
 
 -- ------------------------------------------------------------------------------------------------
 -- Demand 1
-
-run-refused : (s : Start) (code place : ℕ) → refusal (runRules s) ≡ Refused code place → result s ≡ refused s code place
-unfolding result
-run-refused s code place e = rw (e, result)
 
 pub demand-1 : Demand1 rules
 unfolding rules
@@ -46,25 +36,11 @@ demand-1 =
     record {
       check = λ s. refused-iff (checkRules s);
       seal = λ s. refused-iff (checkRules s ++ sealRules s);
-      run = λ s code place f. run-refused s code place (refused-iff (runRules s) code place .1 f);
+      run = λ s code place f. result-refused s (refused-iff (runRules s) code place .1 f);
     }
 
 -- ------------------------------------------------------------------------------------------------
 -- What an accepted table is
-
-records-of : {s : List ℕ} → AllHold (headerRules s ++ recordRules s) → RecordsHold s
-records-of {s} h = records-hold-iff s .0 (all-hold-append (headerRules s) (recordRules s) .0 h .1)
-
--- refusals 12 and 13, at each of their places
-type-rules-hold : (s : List ℕ) → AllHold (headerRules s ++ recordRules s) → AllHold (typeRules s) ↔ TypingHolds s
-unfolding typeRules
-type-rules-hold s h = (to, λ t. let p = type-rules-iff reads .1 t in one-more (p .0) (one-more (p .1) no-rule))
-  where
-    reads : Reads s 0 (header s .statements) (program s)
-    reads = program-reads (records-of h)
-
-    to : AllHold (typeRules s) → TypingHolds s
-    to (one-more e (one-more k no-rule)) = type-rules-iff reads .0 (e, k)
 
 -- refusals 14 and 15
 seal-rules-hold : (s : List ℕ) → AllHold (headerRules s ++ recordRules s) → AllHold (sealRules s) ↔ SealHolds s
@@ -79,44 +55,13 @@ seal-rules-hold s h = (to, λ t. let p = seal-rules-iff reads .1 t in one-more (
 
 -- refusals 1 to 13
 check-rules-iff : (s : List ℕ) → AllHold (checkRules s) ↔ RulesHold s
-unfolding checkRules
 check-rules-iff s = (
-  λ a.
-      let h = all-hold-append (headerRules s) _ .0 a in
-      let r = all-hold-append (recordRules s) _ .0 (h .1) in
-      let f = all-hold-append (forestRules s) _ .0 (r .1) in
-      let records = all-hold-append (headerRules s) (recordRules s) .1 (h .0, r .0) in
-      record { records = records; forest = f .0; types = type-rules-hold s records .0 (f .1) },
-  λ h.
-      let r = all-hold-append (headerRules s) (recordRules s) .0 (h .records) in
-      let t = type-rules-hold s (h .records) .1 (h .types) in
-      let f = all-hold-append (forestRules s) (typeRules s) .1 (h .forest, t) in
-      all-hold-append (headerRules s) _ .1 (r .0, all-hold-append (recordRules s) _ .1 (r .1, f)),
+  λ a. let h = table-ok-iff s .0 a in record { records = h .read; forest = h .forest; types = h .types },
+  λ h. table-ok-iff s .1 (record { read = h .records; forest = h .forest; types = h .types }),
 )
-
--- an accepted start, by its table and its own rules
-accepts : (s : Start) → AllHold (checkRules (s .table)) → AllHold (startRules s) → Accepts s
-unfolding runRules
-accepts s t h = accepted-iff (runRules s) .1 (all-hold-append (checkRules (s .table)) (startRules s) .1 (t, h))
-
-table-holds : (s : Start) → Accepts s → RulesHold (s .table)
-unfolding runRules
-table-holds s a =
-    check-rules-iff (s .table) .0 (all-hold-append (checkRules (s .table)) (startRules s) .0 (accepted-iff (runRules s) .0 a) .0)
-
-checked : {s : List ℕ} → RulesHold s → Checked s
-checked h =
-    let r = records-of (h .records) in
-    record { variables = r .variables; views = expr-view r; reads = program-reads r; typed = h .types .program }
 
 -- ------------------------------------------------------------------------------------------------
 -- Demand 2
-
-next-accepts : (s : Start) → Accepts s → (budget : ℕ) → Accepts (nextStart s (ran s) budget)
-unfolding nextStart
-next-accepts s a budget =
-    let t = table-holds s a in
-    accepts (nextStart s (ran s) budget) (check-rules-iff (s .table) .1 t) (accepted-stays s (checked t) (start-rules-hold s a) budget)
 
 pub demand-2 : Demand2 rules
 unfolding rules nextStart
@@ -135,7 +80,7 @@ demand-2 =
       run = result-ran;
       types = λ s a x h.
           subst (λ (r : Result). Has (entries (r .log) (r .count)) (inState (r .state) (context (s .table) .type x) x) (context (s .table) .type x))
-          (sym (result-ran s a)) (types-kept s (checked (table-holds s a)) (start-rules-hold s a) 0 x h);
+          (sym (result-ran s a)) (types-kept s (checked (table-ok s a)) (start-rules-hold s a) 0 x h);
       again = λ s a budget. subst (λ (r : Result). Accepts (nextStart s r budget)) (sym (result-ran s a)) (next-accepts s a budget);
     }
 

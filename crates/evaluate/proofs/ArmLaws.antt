@@ -1,19 +1,23 @@
 -- Each way of the walk: what it asks of the next call, and that it leaves what the evaluation of its expression leaves. Assumes nothing.
-use mathlib.Core.Path.{_≡_, sym, ap, subst, _∙_}
+use mathlib.Core.Path.{_≡_, refl, sym, ap, subst, _∙_}
 use mathlib.Core.Bool.{true, false}
 use mathlib.Core.List.{List, _∷_}
-use Prim.Native.Nat.{ℕ, _/_, _≤_, _<_}
+use Prim.Native.Nat.{ℕ, _*_, _/_, _≤_, _<_}
 use native.Mathlib.Omega.{arith}
 use lib.Dec.{ltb}
 use lib.ListN.{length}
 use borrow.Author.Tests.{lt-ltb, le-ltb}
+use Rattle.base.specs.Numbered.{numbered}
 use Rattle.base.proofs.BoolLaws.{impossible}
+use Rattle.base.proofs.NumberedLaws.{end, _then_, numbered-all}
 use Rattle.value.specs.declared.ValueType.{ValueType}
 use Rattle.value.specs.declared.Value.{Value}
 use Rattle.value.specs.Values.{Sound, typeOf, size}
+use Rattle.table.specs.declared.Header.{Header}
 use Rattle.table.specs.declared.Node.{Node}
 use Rattle.table.specs.Bytes.{header, expression}
-use Rattle.table.specs.Decode.{context, expr}
+use Rattle.table.specs.Records.{Framed}
+use Rattle.table.specs.Decode.{Context, context, expr}
 use Rattle.table.proofs.ExpressionLaws.{expr-view}
 use Rattle.typing.specs.Typing.{_⊢_∶_}
 use Rattle.memory.specs.Log.{Log, entrySize, entries}
@@ -30,27 +34,29 @@ use Rattle.bindings.specs.Bound.{bindingsOf, more}
 use Rattle.bindings.proofs.BoundLaws.{whole-more, bindings-more, length-bindings}
 use Rattle.operation.specs.declared.Evaluated.{Evaluated}
 use Rattle.operation.specs.declared.Evaluated.the-variants.{Of, Stopped}
+use Rattle.operation.specs.declared.leaf.AtOnce.{AtOnce}
+use Rattle.operation.specs.declared.leaf.AtOnce.the-variants.{Is, Deeper}
 use Rattle.operation.specs.declared.order.Steps.{Steps}
 use Rattle.operation.specs.declared.order.Steps.the-variants as By
-use Rattle.operation.specs.Order.{stepsOf}
-use Rattle.operation.specs.ByOp.{leafValue, oneValue, twoValue, threeValue, OneFits, TwoFits, ThreeFits}
+use Rattle.operation.specs.Order.{orders, stepsOf}
+use Rattle.operation.specs.ByOp.{leaves, atOnce, valueIn, leafValue, oneValue, twoValue, threeValue, OneFits, TwoFits, ThreeFits}
 use Rattle.operation.specs.After.{AfterOne, AfterTwo, AfterThree, oneAfter, twoAfter, threeAfter}
 use Rattle.operation.specs.Outcome.{Leaves, logIn}
 use Rattle.operation.proofs.OutcomeLaws as Still
 use Rattle.evaluate.specs.Ready.{Ready}
 use Rattle.evaluate.proofs.OnLaws.{three-on}
 use Rattle.evaluate.proofs.StepLaws.{Step, leaf, one, two, lets, three, step, evalBy, evalAt, eval-by}
-use Rattle.evaluate.proofs.WentLaws.{Went, went-trans, went-holds, over, leaves-value, leaves-stop, Known, known, known-stop, known-of}
+use Rattle.evaluate.proofs.WentLaws.{Went, went-trans, went-holds, over, leaves-value, leaves-stop, Known, known, known-stop, known-long, known-of}
 
 -- ------------------------------------------------------------------------------------------------
 -- An operand that gave a value, and one that stopped
 
-record Valued (l : List ℕ) (n : ℕ) (t : ValueType) (x : E.Evaluated) (v : Value) (m : List ℕ) (k : ℕ) : Type 0 where
-  went : Went l n m k
-  is : x ≡ E.value v (entries m k)
-  has : Has (entries m k) v t
+pub record Valued (l : List ℕ) (n : ℕ) (t : ValueType) (x : E.Evaluated) (v : Value) (m : List ℕ) (k : ℕ) : Type 0 where
+  pub went : Went l n m k
+  pub is : x ≡ E.value v (entries m k)
+  pub has : Has (entries m k) v t
 
-valued : {l m : List ℕ} {n k : ℕ} {t : ValueType} {x : E.Evaluated} {r : Evaluated} {v : Value} → Known l n t x r m → r ≡ Of v k → Valued l n t x v m k
+pub valued : {l m : List ℕ} {n k : ℕ} {t : ValueType} {x : E.Evaluated} {r : Evaluated} {v : Value} → Known l n t x r m → r ≡ Of v k → Valued l n t x v m k
 valued {l} {m} {n} {k} {t} {x} {v = v} (known {v = u} {k = j} w e h) p =
     let q : u ≡ v = cc in
     let o : j ≡ k = cc in
@@ -58,11 +64,11 @@ valued {l} {m} {n} {k} {t} {x} {v = v} (known {v = u} {k = j} w e h) p =
     rw (q, o) at first
 valued (known-stop w e) p = impossible (cc)
 
-record Ended (l : List ℕ) (n : ℕ) (x : E.Evaluated) (code : ℕ) (m : List ℕ) (k : ℕ) : Type 0 where
-  went : Went l n m k
-  is : x ≡ E.stopped code (entries m k)
+pub record Ended (l : List ℕ) (n : ℕ) (x : E.Evaluated) (code : ℕ) (m : List ℕ) (k : ℕ) : Type 0 where
+  pub went : Went l n m k
+  pub is : x ≡ E.stopped code (entries m k)
 
-ended : {l m : List ℕ} {n k code : ℕ} {t : ValueType} {x : E.Evaluated} {r : Evaluated} → Known l n t x r m → r ≡ Stopped code k → Ended l n x code m k
+pub ended : {l m : List ℕ} {n k code : ℕ} {t : ValueType} {x : E.Evaluated} {r : Evaluated} → Known l n t x r m → r ≡ Stopped code k → Ended l n x code m k
 ended (known w e h) p = impossible (cc)
 ended {l} {m} {n} {k} {code} {x = x} (known-stop {code = c} {k = j} w e) p =
     let q : c ≡ code = cc in
@@ -182,9 +188,13 @@ module _ {s σ l : List ℕ} {b : Bindings} {n : ℕ} (ready : Ready s σ l b n)
   }
 
   -- whatever its type
-  known-call : {m : List ℕ} {e : Evaluated} (i : ℕ) → i < header s .expressions → Call s σ l b n i e m
+  pub known-call : {m : List ℕ} {e : Evaluated} (i : ℕ) → i < header s .expressions → Call s σ l b n i e m
       → (t : ValueType) × Known l n t (evaluated s σ l (bindingsOf b) (entries l n) i) e m
   known-call i inside left = let (t, d) = ready .typing .expressions i inside in (t, called i inside d left)
+
+  -- whatever its outcome
+  pub long : {m : List ℕ} {e : Evaluated} (i : ℕ) → i < header s .expressions → Call s σ l b n i e m → length m ≡ length l
+  long i inside left = let (t, k) = known-call i inside left in known-long k
 
   -- a buffer that the next call may start from
   module _ {m : List ℕ} {e : Evaluated} {v : Value} {k : ℕ} (i : ℕ) (inside : i < header s .expressions) (left : Call s σ l b n i e m) (p : e ≡ Of v k) where
@@ -196,9 +206,6 @@ module _ {s σ l : List ℕ} {b : Bindings} {n : ℕ} (ready : Ready s σ l b n)
 
     pub next : Ready s σ m b k
     next = stays went-on
-
-    pub long : length m ≡ length l
-    long = went-on .same
 
   -- a stop of the first operand
   stops-first : {m : List ℕ} {e : Evaluated} {code k : ℕ} {y : E.Evaluated} (i : ℕ) → i < header s .expressions → Call s σ l b n i e m → e ≡ Stopped code k
@@ -433,3 +440,47 @@ module _ {s σ l : List ℕ} {b : Bindings} {n i : ℕ} {r : Node} (here : At s 
                 end-three r v w both k₃
                 (then-value (rest v) after-one (gave (stays ready went-one) c (omega arith) second u)
                 ∙ ap (λ (o : ℕ). evalAt s (o / entrySize) σ d (bindingsOf b) (entries p j) and-then last v w) (sym (both .same))) left
+
+-- ------------------------------------------------------------------------------------------------
+-- An operand, whose value is there at once or is walked to
+
+-- what a call left, where the ways have met
+pub walked : {l m p : List ℕ} {y : E.Evaluated} {x e : Evaluated} → Leaves l y x p → m ≡ p → e ≡ x → Leaves l y e m
+walked {l} {m} {p} {y} {x} {e} left same gave =
+    subst (λ (m : List ℕ). Leaves l y e m) (sym same) (subst (λ (e : Evaluated). Leaves l y e p) (sym gave) left)
+
+-- what is there at once has no operands
+at-once-leaf : (Γ : Context) (σ : List ℕ) (r : Node) (ρ : List Binding) {v : Value} → atOnce Γ σ r ρ ≡ Is v → stepsOf r ≡ By.Leaf
+unfolding atOnce leaves stepsOf orders
+at-once-leaf Γ σ r ρ {v} =
+    numbered-all (λ (k : ℕ) (f : Context → List ℕ → Node → List Binding → AtOnce). f Γ σ r ρ ≡ Is v → numbered (λ r. By.Leaf) orders k r ≡ By.Leaf)
+    (λ Γ σ r ρ. Deeper) (λ k e. impossible (cc)) leaves ((λ e. refl) then (λ e. refl) then (λ e. refl) then end) (r .op)
+
+module _ {s σ l : List ℕ} {b : Bindings} {n i : ℕ} (ready : Ready s σ l b n) (inside : i < header s .expressions) where
+  operand : At s σ l b n i (expression s i)
+  operand = record { ready = ready; inside = inside; is = refl }
+
+  variable-asks : expression s i .op ≡ 1 → expression s i .a < header s .variables
+  unfolding stepsOf orders
+  variable-asks op = leaf-asks operand (rw op refl) op
+
+  pub at-once-asks : {h : Header} → h ≡ header s
+      → Framed s h
+      × ((2 * h .variables ≤ length σ)
+      × ((b .count ≤ mostBindings) × ((i < h .expressions) × (expression s i .op ≡ 1 → expression s i .a < h .variables))))
+  at-once-asks {h} e =
+      let long = ready .state in
+      let few : 2 * header s .variables ≤ length σ = omega arith in
+      subst (λ (h : Header). Framed s h
+      × ((2 * h .variables ≤ length σ)
+      × ((b .count ≤ mostBindings) × ((i < h .expressions) × (expression s i .op ≡ 1 → expression s i .a < h .variables))))) (sym e)
+      (ready .framed, (few, (ready .whole .few, (inside, variable-asks))))
+
+  pub at-once-leaves : {w : AtOnce} {v : Value} {e : Evaluated} {m : List ℕ} → w ≡ atOnce (context s) σ (expression s i) (bindingsOf b) → w ≡ Is v
+      → m ≡ l → e ≡ Of v n → Call s σ l b n i e m
+  unfolding leafValue
+  at-once-leaves {v = v} {e = e} is found same gave =
+      let there : atOnce (context s) σ (expression s i) (bindingsOf b) ≡ Is v = sym is ∙ found in
+      let left : Call s σ l b n i (Of v n) l =
+      leaf-leaves operand (at-once-leaf (context s) σ (expression s i) (bindingsOf b) there) (sym (ap valueIn there)) in
+      walked left same gave

@@ -25,7 +25,7 @@ use Rattle.evaluation.specs.Evaluation.{Evaluated, value, stopped, _and-then_, 
 use Rattle.operation.specs.declared.order.Steps.{Steps}
 use Rattle.operation.specs.declared.order.Steps.the-variants as By
 use Rattle.operation.specs.Order.{orders, stepsOf}
-use Rattle.operation.specs.ByOp.{leaves, leafValue, ones, oneValue, twos, twoValue, threes, threeValue, OneFits, TwoFits, ThreeFits}
+use Rattle.operation.specs.ByOp.{leaves, atOnce, leafValue, ones, oneValue, twos, twoValue, threes, threeValue, OneFits, TwoFits, ThreeFits}
 
 pub data Step (s : List ℕ) (i : ℕ) (r : Node) : Steps → Type 0 where
   leaf : (r .op ≡ 1 → r .a < header s .variables) → Step s i r By.Leaf
@@ -148,7 +148,7 @@ module _ (s : List ℕ) (room : ℕ) (σ : List ℕ) where
 
   pub eval-by : {i : ℕ} {e : Expr} → View s i e → (ρ : List Binding) (L : Log)
       → eval (context s) room σ e ρ L ≡ evalBy (context s) room σ evalAt (expression s i) (stepsOf (expression s i)) ρ L
-  unfolding eval evalBy stepsOf orders leafValue leaves oneValue ones twoValue twos threeValue threes
+  unfolding eval evalBy stepsOf orders leafValue atOnce leaves oneValue ones twoValue twos threeValue threes
   eval-by (v-var o a) ρ L = rw o refl
   eval-by (v-word o w) ρ L = rw o refl
   eval-by (v-load o z a b) ρ L = rw o refl

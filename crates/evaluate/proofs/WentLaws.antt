@@ -1,19 +1,19 @@
 -- A buffer after an evaluation: the log in it went on, and another evaluation may start from it. Assumes nothing.
 use mathlib.Core.Path.{_≡_, sym, ap, subst, _∙_}
-use mathlib.Core.List.{List, _++_}
-use Prim.Native.Nat.{ℕ, _+_, _-_, _*_, _/_, _≤_}
+use mathlib.Core.List.{List}
+use Prim.Native.Nat.{ℕ, _*_, _/_, _≤_}
 use native.Mathlib.Omega.{arith}
-use lib.ListN.{length, drop}
-use lib.Seq.{drop-drop, drop-append-add}
+use lib.ListN.{length}
 use Rattle.value.specs.declared.ValueType.{ValueType}
 use Rattle.value.specs.declared.Value.{Value}
-use Rattle.memory.specs.Log.{Log, entrySize, entries, numbersOf, holding}
+use Rattle.memory.specs.Log.{Log, entrySize, entries, holding}
 use Rattle.memory.specs.Typed.{Has}
-use Rattle.memory.proofs.LogLaws.{_⊑_, ⊑-trans, ⊑-length, length-numbersOf, length-entries, entries-holding, length-holding}
+use Rattle.memory.proofs.LogLaws.{_⊑_, ⊑-trans, ⊑-length, length-entries, entries-holding, length-holding}
 use Rattle.memory.proofs.LogRules.{InRoom, entries-rules}
 use Rattle.evaluation.specs.Evaluation as E
 use Rattle.evaluation.proofs.EvaluationLaws.{Gives, gives, stops}
 use Rattle.logs.specs.Held.{Holds}
+use Rattle.logs.proofs.HoldingLaws.{holding-again}
 use Rattle.operation.specs.declared.Evaluated.{Evaluated}
 use Rattle.operation.specs.declared.Evaluated.the-variants.{Of, Stopped}
 use Rattle.operation.specs.Outcome.{Leaves, answer, logIn}
@@ -26,26 +26,12 @@ pub record Went (l : List ℕ) (n : ℕ) (m : List ℕ) (k : ℕ) : Type 0 where
   pub same : length m ≡ length l
   pub room : entrySize * k ≤ length m
 
--- a longer log put over a shorter one
-holding-over : (l : List ℕ) (L M : Log) → length L ≤ length M → holding (holding l L) M ≡ holding l M
-unfolding holding
-holding-over l L M h =
-    let n = length-numbersOf L in
-    let more = entrySize * length M - entrySize * length L in
-    let at : entrySize * length M ≡ length (numbersOf L) + more = omega arith in
-    let back : entrySize * length L + more ≡ entrySize * length M = omega arith in
-    ap (λ (back : List ℕ). numbersOf M ++ back)
-    (ap (λ (k : ℕ). drop k (numbersOf L ++ drop (entrySize * length L) l)) at
-    ∙ drop-append-add (numbersOf L) (drop (entrySize * length L) l) more
-    ∙ drop-drop more (entrySize * length L) l
-    ∙ ap (λ (k : ℕ). drop k l) back)
-
 module _ {l m : List ℕ} {n k : ℕ} (w : Went l n m k) where
   -- what is put over the second buffer is put over the first
   pub over : (M : Log) → entries m k ⊑ M → holding m M ≡ holding l M
   over M p =
       let h = ⊑-length p in
-      ap (λ (b : List ℕ). holding b M) (w .holds) ∙ holding-over l (entries m k) M h
+      ap (λ (b : List ℕ). holding b M) (w .holds) ∙ holding-again l (entries m k) M h
 
   pub went-trans : {p : List ℕ} {j : ℕ} → Went m k p j → Went l n p j
   went-trans {p} {j} v =
@@ -82,7 +68,11 @@ pub data Known (l : List ℕ) (n : ℕ) (t : ValueType) (x : E.Evaluated) : Eval
   known : {v : Value} {k : ℕ} {m : List ℕ} → Went l n m k → x ≡ E.value v (entries m k) → Has (entries m k) v t → Known l n t x (Of v k) m
   known-stop : {code k : ℕ} {m : List ℕ} → Went l n m k → x ≡ E.stopped code (entries m k) → Known l n t x (Stopped code k) m
 
-went : (l : List ℕ) (n : ℕ) (M : Log) → entries l n ⊑ M → InRoom (length l / entrySize) M → Went l n (holding l M) (length M)
+pub known-long : {l m : List ℕ} {n : ℕ} {t : ValueType} {x : E.Evaluated} {r : Evaluated} → Known l n t x r m → length m ≡ length l
+known-long (known w e h) = w .same
+known-long (known-stop w e) = w .same
+
+pub went : (l : List ℕ) (n : ℕ) (M : Log) → entries l n ⊑ M → InRoom (length l / entrySize) M → Went l n (holding l M) (length M)
 went l n M p k =
     let most = k .most in
     let same = length-holding l M (omega arith) in

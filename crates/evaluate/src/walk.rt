@@ -1,5 +1,6 @@
 // The value of an expression by recursion on its operands, whose numbers are lower, in paper 01's order. It goes no deeper than the
-// table does: 64 expressions. Each call that goes down is handed the bindings by value, 712 bytes.
+// table does: 64 expressions. Each call that goes down is handed the bindings by value, 712 bytes; so an
+// operand that has no operands itself is evaluated at once, without a call.
 ghost use Prim.Native.Nat.{_/_, _<_};
 ghost use lib.ListN.{length};
 ghost use Rattle.table.specs.Bytes as Bytes;
@@ -13,6 +14,8 @@ use bindings::Bindings;
 use operation::Evaluated;
 use operation::TOO_MANY_BINDINGS;
 use operation::after;
+use operation::leaf::AtOnce;
+use operation::leaf::at_once;
 use operation::leaf::leaf;
 use operation::order::Steps;
 use operation::order::steps_of;
@@ -36,19 +39,38 @@ pub fn eval(
     let o = steps_of(r);
     match o {
         Steps::Leaf => Evaluated::Of(leaf(s, h, state, bindings, r), count),
-        Steps::One(a) => after::one(r, eval(s, state, log, bindings, count, a)),
+        Steps::One(a) => {
+            let p = at_once(s, h, state, bindings, a);
+            let e = match p {
+                AtOnce::Is(v) => Evaluated::Of(v, count),
+                AtOnce::Deeper => eval(s, state, log, bindings, count, a),
+            };
+            after::one(r, e)
+        }
         Steps::Two(a, b) => {
-            let e = eval(s, state, log, bindings, count, a);
+            let p = at_once(s, h, state, bindings, a);
+            let e = match p {
+                AtOnce::Is(v) => Evaluated::Of(v, count),
+                AtOnce::Deeper => eval(s, state, log, bindings, count, a),
+            };
             match e {
                 Evaluated::Of(x, n) => {
-                    let f = eval(s, state, log, bindings, n, b);
+                    let q = at_once(s, h, state, bindings, b);
+                    let f = match q {
+                        AtOnce::Is(v) => Evaluated::Of(v, n),
+                        AtOnce::Deeper => eval(s, state, log, bindings, n, b),
+                    };
                     after::two(log, r, x, f)
                 }
                 Evaluated::Stopped(code, n) => Evaluated::Stopped(code, n),
             }
         }
         Steps::Let(a, b) => {
-            let e = eval(s, state, log, bindings, count, a);
+            let p = at_once(s, h, state, bindings, a);
+            let e = match p {
+                AtOnce::Is(v) => Evaluated::Of(v, count),
+                AtOnce::Deeper => eval(s, state, log, bindings, count, a),
+            };
             match e {
                 Evaluated::Of(x, n) => {
                     if 64 <= bindings.count {
@@ -60,13 +82,25 @@ pub fn eval(
             }
         }
         Steps::Three(a, b, c) => {
-            let e = eval(s, state, log, bindings, count, a);
+            let p = at_once(s, h, state, bindings, a);
+            let e = match p {
+                AtOnce::Is(v) => Evaluated::Of(v, count),
+                AtOnce::Deeper => eval(s, state, log, bindings, count, a),
+            };
             match e {
                 Evaluated::Of(x, n) => {
-                    let f = eval(s, state, log, bindings, n, b);
+                    let q = at_once(s, h, state, bindings, b);
+                    let f = match q {
+                        AtOnce::Is(v) => Evaluated::Of(v, n),
+                        AtOnce::Deeper => eval(s, state, log, bindings, n, b),
+                    };
                     match f {
                         Evaluated::Of(y, m) => {
-                            let g = eval(s, state, log, bindings, m, c);
+                            let u = at_once(s, h, state, bindings, c);
+                            let g = match u {
+                                AtOnce::Is(v) => Evaluated::Of(v, m),
+                                AtOnce::Deeper => eval(s, state, log, bindings, m, c),
+                            };
                             after::three(log, r, x, y, g)
                         }
                         Evaluated::Stopped(code, m) => Evaluated::Stopped(code, m),

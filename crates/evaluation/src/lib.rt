@@ -1,1 +1,1 @@
-// The evaluation of expressions. Definitions and laws alone so far.
+// The evaluation of expressions. Definitions and laws; the code is in `operation` and `evaluate`.

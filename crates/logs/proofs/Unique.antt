@@ -1,14 +1,9 @@
 -- No second answer fits: the contract of each public function leaves one result. Assumes nothing.
-use mathlib.Core.Path.{_≡_}
 use contract.Lifetimes.{Lfts}
 use denote.Ref.{now}
-use Rattle.base.proofs.Unique.{OneAnswer, is-unique}
+use Rattle.base.proofs.Unique.{OneAnswer, OneOutcome, is-unique}
 use Rattle.word.proofs.Unique.{gives-unique}
 use Rattle.logs.proofs as logs
-
--- as OneAnswer, of a function that also leaves a content behind it: there is one result and one content
-abbrev pub OneOutcome : {A R S X : Type 0} → (A → R → S → Type 0) → (S → X) → Type 0
-OneOutcome {A} {R} {S} Post content = (a : A) (x y : R) (s t : S) → Post a x s → Post a y t → (x ≡ y) × (content s ≡ content t)
 
 pub above-unique : OneAnswer (logs.addresses.above.Reads.Post tt)
 above-unique a x y s = gives-unique

@@ -1,1 +1,1 @@
-// The log, its chains, loads and stores. Definitions and laws alone so far.
+// The log, its chains, loads and stores. Definitions and laws; the code is in `logs`.

@@ -1,8 +1,7 @@
 -- No second answer fits: the contract of each public function leaves one result, and one content of the log. Assumes nothing.
 use contract.Lifetimes.{Lfts}
 use denote.Ref.{now}
-use Rattle.base.proofs.Unique.{OneAnswer, is-unique}
-use Rattle.logs.proofs.Unique.{OneOutcome}
+use Rattle.base.proofs.Unique.{OneAnswer, OneOutcome, is-unique}
 use Rattle.operation.proofs as operation
 
 pub steps-of-unique : OneAnswer (operation.order.steps_of.Reads.Post tt)
@@ -10,6 +9,9 @@ steps-of-unique a x y s = is-unique
 
 pub leaf-unique : (lent : Lfts 2) → OneAnswer (operation.leaf.leaf.Reads.Post lent)
 leaf-unique lent a x y s = is-unique
+
+pub at-once-unique : (lent : Lfts 2) → OneAnswer (operation.leaf.at_once.Reads.Post lent)
+at-once-unique lent a x y s = is-unique
 
 pub one-unique : OneAnswer (operation.after.one.Reads.Post tt)
 one-unique a x y s = is-unique

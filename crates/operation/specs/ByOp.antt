@@ -21,6 +21,8 @@ use Rattle.memory.specs.Access as Access
 use Rattle.evaluation.specs.State.{inState}
 use Rattle.evaluation.specs.Evaluation.{Evaluated, value, afterStore, Binding, look}
 use Rattle.logs.specs.Held.{Addressed}
+use Rattle.operation.specs.declared.leaf.AtOnce.{AtOnce}
+use Rattle.operation.specs.declared.leaf.AtOnce.the-variants.{Is, Deeper}
 
 -- what no accepted table has
 abbrev pub noValue : Value
@@ -29,17 +31,26 @@ noValue = Unknown (Imm 1)
 -- ------------------------------------------------------------------------------------------------
 -- No operand
 
-unfoldable pub leaves : List (ℕ × (Context → List ℕ → Node → List Binding → Value))
+unfoldable pub leaves : List (ℕ × (Context → List ℕ → Node → List Binding → AtOnce))
 unfolding look inState
 leaves =
-    (1, λ Γ σ r ρ. look ρ (inState σ (Γ .type (r .a)) (r .a)) (r .a))
-    ∷ (2, λ Γ σ r ρ. Word (r .p) (wordValue r))
-    ∷ (9, λ Γ σ r ρ. Unknown (unknownType r))
+    (1, λ Γ σ r ρ. Is (look ρ (inState σ (Γ .type (r .a)) (r .a)) (r .a)))
+    ∷ (2, λ Γ σ r ρ. Is (Word (r .p) (wordValue r)))
+    ∷ (9, λ Γ σ r ρ. Is (Unknown (unknownType r)))
     ∷ []
 
-unfoldable pub leafValue : Context → List ℕ → Node → List Binding → Value
+-- the value where there is no operand
+unfoldable pub atOnce : Context → List ℕ → Node → List Binding → AtOnce
 unfolding leaves
-leafValue Γ σ r ρ = numbered (λ Γ σ r ρ. noValue) leaves (r .op) Γ σ r ρ
+atOnce Γ σ r ρ = numbered (λ Γ σ r ρ. Deeper) leaves (r .op) Γ σ r ρ
+
+abbrev pub valueIn : AtOnce → Value
+valueIn (Is v) = v
+valueIn Deeper = noValue
+
+unfoldable pub leafValue : Context → List ℕ → Node → List Binding → Value
+unfolding atOnce
+leafValue Γ σ r ρ = valueIn (atOnce Γ σ r ρ)
 
 -- ------------------------------------------------------------------------------------------------
 -- One

@@ -1,3 +1,4 @@
+pub mod AcceptedLaws
 pub mod EvaluationKeeps
 pub mod PairLaws
 pub mod RunKeeps

@@ -83,7 +83,7 @@ numbers-hold s n (suc (suc (suc (suc i)))) h = refl
 -- ------------------------------------------------------------------------------------------------
 -- The run of an accepted start
 
-stands : (s : Start) → StartOk s → Stands (s .table) (roomOf s) (s .state) (logOf s) (s .next)
+pub stands : (s : Start) → StartOk s → Stands (s .table) (roomOf s) (s .state) (logOf s) (s .next)
 stands s a =
     let n = numbers-of s (a .numbers) in
     record {

@@ -6,7 +6,8 @@ use native.Mathlib.Omega.{arith}
 use lib.Dec.{ltb, lit<}
 use lib.ListN.{length, getD}
 use borrow.Author.Tests.{eqb-true, ltb-true, ltb-false}
-use Rattle.base.specs.Refusals.{AllHold}
+use Rattle.base.specs.Refusals.{AllHold, refusal}
+use Rattle.base.specs.declared.Answer.the-variants.{Refused}
 use Rattle.base.proofs.RefusalLaws.{accepted-iff, all-hold-append, first-holds, later-hold}
 use Rattle.value.specs.declared.ValueType.{ValueType}
 use Rattle.table.specs.declared.Variable.{Variable}
@@ -18,7 +19,7 @@ use Rattle.evaluation.specs.State.{inState, valueOf}
 use Rattle.evaluation.proofs.StateLaws.{inState-past}
 use Rattle.running.proofs.PairLaws.{Pair, absent, word, unknown, memory, pair}
 use Rattle.running.specs.Start.{Start, startRules, numbersOk, logOf}
-use Rattle.running.specs.Result.{Accepts, runRules, result, ran}
+use Rattle.running.specs.Result.{Accepts, runRules, refused, result, ran}
 
 -- a pair that is allowed has no head, or one that is an entry
 pair-head : {L : Log} {v : Variable} {kind n : ℕ} (t : ValueType) → Pair L v kind n → headOf (valueOf t kind n) ≤ length L
@@ -27,6 +28,11 @@ pair-head t (absent k z) = rw k (omega arith)
 pair-head t (word r k i f) = rw k (omega arith)
 pair-head t (unknown r k z) = rw k (omega arith)
 pair-head t (memory r k m h) = rw k (h .link .most)
+
+-- "Codes 1 to 18 leave all buffers unchanged, ticks 0, log count and next address as given."
+pub result-refused : (s : Start) {code place : ℕ} → refusal (runRules s) ≡ Refused code place → result s ≡ refused s code place
+unfolding result
+result-refused s e = rw (e, result)
 
 module _ (s : Start) (a : Accepts s) where
   pub start-rules-hold : AllHold (startRules s)

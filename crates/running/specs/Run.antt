@@ -27,7 +27,7 @@ pub record Left : Type 0 where
 unfoldable pub left : Ending → ℕ → List ℕ → Log → ℕ → Left
 left ending t σ L a = record { ending = ending; remaining = t; state = σ; log = L; next = a }
 
--- "At a stop the innermost statement is named, its move isn't done, entries it appended stay, and its tick counts, save at 35."
+-- a stop with a code at a statement
 unfoldable pub stop : ℕ → ℕ → ℕ → List ℕ → Log → ℕ → Left
 unfolding left
 stop code n = left (Stopped code n)
@@ -47,6 +47,7 @@ target (Word w v) = some v
 target (Unknown t) = none
 target (Memory w head) = none
 
+-- "At a stop the innermost statement is named, its move isn't done, entries it appended stay, and its tick counts, save at 35."
 -- "A tick is charged when a statement is begun; a while counts as begun at each test of its guard, the first included, and only
 -- then. A while's body is followed by the while again." A stop in an evaluation has its own code; 32 "guard unknown", 33 "jump
 -- unknown", 35 "tick needed, none left".

@@ -40,7 +40,7 @@ numbersOk s =
     ∷ []
 
 -- 18: "0,0 absent; 1,word that fits, for an immediate; 2,0 unknown; 3,head, for a memory: 1 to the log count, an entry of its
--- address width. Let variables are absent at every start, end and stop."
+-- address width. Let variables are absent at every start, end and stop." Of the end and a stop: `again` (demands).
 unfoldable pub pairOk : Log → Variable → ℕ → ℕ → Bool
 unfolding widthAt
 pairOk L v kind n =

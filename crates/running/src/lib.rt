@@ -1,4 +1,4 @@
-// The run of a table. Definitions and laws alone so far.
+// The run of a table. Definitions and laws; the code is in `effect`, `execute` and `runner`.
 
 // How a run ended: done, refused with its code and place, or stopped with its code at a statement.
 pub enum Ending {

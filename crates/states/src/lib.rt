@@ -6,7 +6,7 @@ ghost use Rattle.evaluation.specs.State.{valueOf, kindOf, numberOf, inState, mo
 use value::Value;
 use value::ValueType;
 
-// The kinds of values; every other number is that of an absent variable.
+// The kinds of values; 0 is that of an absent variable, and no accepted state has another.
 pub const WORD: u64 = 1;
 
 pub const UNKNOWN: u64 = 2;

@@ -1,4 +1,5 @@
 pub mod Assembler
+pub mod BlockLaws
 pub mod ExpressionLaws
 pub mod FieldLaws
 pub mod FrameLaws

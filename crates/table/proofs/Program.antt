@@ -13,7 +13,7 @@ use Rattle.table.specs.Bytes.{header, statement}
 use Rattle.table.specs.Fields as F
 use Rattle.table.specs.Fields.{Row, noRow, statementRows, statementRow}
 use Rattle.table.specs.Records.{fieldOk}
-use Rattle.table.specs.Decode.{expr, starters, startingAt, blocks, program}
+use Rattle.table.specs.Decode.{expr, starters, startingAt, blocks, blockAt, program}
 use Rattle.table.specs.Syntax as S
 use Rattle.table.specs.Syntax.{Block}
 use Rattle.table.specs.Records.{RecordsHold}
@@ -99,6 +99,10 @@ blocks-read {s} holds (suc k) h zero l n e block =
     (starting-reads holds n l (blocks s k) (λ m j at p b. blocks-read holds k (omega arith) m j at (omega arith) b) block)
 blocks-read holds (suc k) h (suc m) l n e block = blocks-read holds k (omega arith) m l n (omega arith) block
 
+pub block-reads : {s : List ℕ} → RecordsHold s → (n l : ℕ) → IsBlock s n l → Reads s n l (blockAt s n l)
+unfolding blockAt
+block-reads {s} holds n l = blocks-read holds (header s .statements) (omega arith) n l n (omega arith)
+
 pub program-reads : {s : List ℕ} → RecordsHold s → Reads s 0 (header s .statements) (program s)
 unfolding program
-program-reads {s} holds = blocks-read holds (header s .statements) (omega arith) 0 (header s .statements) 0 (omega arith) (whole-block s)
+program-reads {s} holds = block-reads holds 0 (header s .statements) (whole-block s)

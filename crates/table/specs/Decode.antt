@@ -94,7 +94,12 @@ unfolding startingAt header
 blocks s zero = []
 blocks s (suc k) = let behind = blocks s k in startingAt s (header s .statements - suc k) behind ∷ behind
 
+-- the block of so many statements that starts with statement n
+unfoldable pub blockAt : List ℕ → ℕ → ℕ → Block
+unfolding blocks header
+blockAt s n = getD (blocks s (header s .statements)) n (λ l. S.end)
+
 -- the whole
 unfoldable pub program : List ℕ → Block
-unfolding blocks header
-program s = getD (blocks s (header s .statements)) 0 (λ l. S.end) (header s .statements)
+unfolding blockAt header
+program s = blockAt s 0 (header s .statements)

@@ -39,7 +39,7 @@ headerRules s =
     && (eqb (h .statementsAt) (statementsFrom h) && (eqb (h .total) (end h) && eqb (length s) (end h)))))
     ∷ []
 
--- what refusals 1 to 4 leave: a header that is the table's, sections that fill it, and counts within their limits
+-- what the parts need of what refusals 1 to 4 leave: a header that is the table's, sections that fill it, and counts within their limits
 pub record Framed (s : List ℕ) (h : Header) : Type 0 where
   pub is : h ≡ header s
   pub whole : length s ≡ end h

@@ -51,8 +51,8 @@ bothTypes Untyped o = Untyped
 bothTypes (Of t) Untyped = Untyped
 bothTypes (Of t) (Of u) = when (sameType t u) (Of t)
 
--- What each op makes of the types of its operands. "A load's address has the memory's address width, a store's value has the size
--- named."
+-- What each op makes of the types of its operands. "A load's address has the memory's address width, and a store's value has the
+-- size named."
 unfoldable pub loadType : ℕ → Typed → Typed → Typed
 unfolding memory when isType
 loadType z m e = memory m λ a. when (isType (Imm a) e) (Of (Imm z))

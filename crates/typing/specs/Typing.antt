@@ -12,7 +12,7 @@ use Rattle.table.specs.Syntax.{Expr, Block}
 
 infix 20 _⊢_∶_
 -- Γ ⊢ exp :: type. The context is the table's list of variables, let variables included: refusal 11 sees to their scope. 002's premises
--- on sizes, on Γ and on types being ok are refusals 5 and 6.
+-- on sizes and on types being ok are refusals 5 and 6, of which 6 bounds the subs too; that no name enters Γ twice is 11.
 pub data _⊢_∶_ (Γ : Context) : Expr → ValueType → Type 0 where
   T-VAR : {x : ℕ} → Γ ⊢ S.var x ∶ Γ .type x
   -- narrowed: "words of 1 to 64 bits"; refusal 6 sees to it

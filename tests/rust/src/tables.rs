@@ -121,7 +121,7 @@ impl Maker<'_> {
         let mut sizes = self.sizes();
         self.block(self.shape.statements, 1, &mut sizes);
         if self.chance(2) {
-            self.shuffle();
+            shuffle(self.random, &mut self.t);
         }
         self.t
     }
@@ -399,36 +399,37 @@ impl Maker<'_> {
         }
         fits(&sizes).then_some(sizes)
     }
+}
 
-    /// Numbers the expressions anew, in any order in which operands stand before their users.
-    fn shuffle(&mut self) {
-        let old = std::mem::take(&mut self.t.expressions);
-        let mut user = vec![None; old.len()];
-        let mut missing = vec![0; old.len()];
-        for (i, e) in old.iter().enumerate() {
-            missing[i] = e.operands().len();
-            e.operands().iter().for_each(|&o| user[o as usize] = Some(i));
+/// Numbers the expressions anew, in any order in which operands stand before their users.
+pub fn shuffle(random: &mut Random, t: &mut Table) {
+    let old = std::mem::take(&mut t.expressions);
+    let mut user = vec![None; old.len()];
+    let mut missing = vec![0; old.len()];
+    for (i, e) in old.iter().enumerate() {
+        missing[i] = e.operands().len();
+        e.operands().iter().for_each(|&o| user[o as usize] = Some(i));
+    }
+    let mut ready: Vec<usize> = (0..old.len()).filter(|&i| missing[i] == 0).collect();
+    let mut new = vec![0; old.len()];
+    while !ready.is_empty() {
+        let i = ready.swap_remove(random.below(ready.len() as u64) as usize);
+        let mut e = old[i];
+        for operand in operand_fields(&mut e) {
+            *operand = new[*operand as usize];
         }
-        let mut ready: Vec<usize> = (0..old.len()).filter(|&i| missing[i] == 0).collect();
-        let mut new = vec![0; old.len()];
-        while !ready.is_empty() {
-            let i = ready.swap_remove(self.random.below(ready.len() as u64) as usize);
-            let mut e = old[i];
-            for operand in operand_fields(&mut e) {
-                *operand = new[*operand as usize];
-            }
-            new[i] = self.push(e);
-            if let Some(u) = user[i] {
-                missing[u] -= 1;
-                if missing[u] == 0 {
-                    ready.push(u);
-                }
+        new[i] = t.expressions.len() as u32;
+        t.expressions.push(e);
+        if let Some(u) = user[i] {
+            missing[u] -= 1;
+            if missing[u] == 0 {
+                ready.push(u);
             }
         }
-        for s in &mut self.t.statements {
-            if let Some(root) = root_field(s) {
-                *root = new[*root as usize];
-            }
+    }
+    for s in &mut t.statements {
+        if let Some(root) = root_field(s) {
+            *root = new[*root as usize];
         }
     }
 }

@@ -59,7 +59,12 @@ pub type Verdict = (u32, u32);
 
 /// Refusals 1 to 13.
 pub fn check(bytes: &[u8]) -> Verdict {
-    read(bytes).and_then(|table| typed(&table)).err().unwrap_or((0, 0))
+    accepted(bytes).err().unwrap_or((0, 0))
+}
+
+/// The table that the bytes hold, or the first of refusals 1 to 13.
+pub fn accepted(bytes: &[u8]) -> Result<Table, Verdict> {
+    read(bytes).and_then(|table| typed(&table).map(|()| table))
 }
 
 /// Refusals 1 to 15.

@@ -1,0 +1,2 @@
+// Running: blocks and statements run each other by turns.
+pub mod turns;

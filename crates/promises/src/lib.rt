@@ -1,0 +1,1 @@
+// Nothing to run: the three demands over the contracts of the code.
