@@ -1,0 +1,3 @@
+pub mod CheckedLaws
+pub mod ReportLaws
+pub mod Unique
