@@ -9,14 +9,14 @@ use Rattle.bil.specs.RunCall.{Left}
 use Rattle.bil.proofs as bil
 
 pub words-unique : OneAnswer (bil.bil_word_kind.Reads.Post tt) × OneAnswer (bil.bil_word_value.Reads.Post tt)
-words-unique = (λ a x y s. is-unique, λ a x y s. is-unique)
+words-unique = (λ a x y s t. is-unique, λ a x y s t. is-unique)
 
 pub checks-unique : (lent : Lfts 1) →
     OneAnswer (bil.bil_check_code.Reads.Post lent)
     × OneAnswer (bil.bil_check_place.Reads.Post lent)
     × OneAnswer (bil.bil_seal_code.Reads.Post lent)
     × OneAnswer (bil.bil_seal_place.Reads.Post lent)
-checks-unique lent = (λ a x y s. is-unique, λ a x y s. is-unique, λ a x y s. is-unique, λ a x y s. is-unique)
+checks-unique lent = (λ a x y s t. is-unique, λ a x y s t. is-unique, λ a x y s t. is-unique, λ a x y s t. is-unique)
 
 -- the contents of the state, of the log and of the five numbers
 abbrev Buffers : Type 0

@@ -3,10 +3,10 @@ use Rattle.base.proofs.Unique.{OneAnswer, is-unique}
 use Rattle.bindings.proofs as bindings
 
 pub none-unique : OneAnswer (bindings.Bindings.none.Reads.Post tt)
-none-unique a x y s = is-unique
+none-unique a x y s t = is-unique
 
 pub with-unique : OneAnswer (bindings.Bindings.with.Reads.Post tt)
-with-unique a x y s = is-unique
+with-unique a x y s t = is-unique
 
 pub find-unique : OneAnswer (bindings.Bindings.find.Reads.Post tt)
-find-unique a x y s = is-unique
+find-unique a x y s t = is-unique

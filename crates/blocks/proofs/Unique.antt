@@ -4,7 +4,7 @@ use Rattle.base.proofs.Unique.{OneAnswer, is-unique}
 use Rattle.blocks.proofs as blocks
 
 pub statements-unique : (lent : Lfts 1) → OneAnswer (blocks.statements.statements.Reads.Post lent)
-statements-unique lent a x y s = is-unique
+statements-unique lent a x y s t = is-unique
 
 pub bodies-unique : (lent : Lfts 1) → OneAnswer (blocks.bodies.second_end.Reads.Post lent)
-bodies-unique lent a x y s = is-unique
+bodies-unique lent a x y s t = is-unique

@@ -1,1 +1,3 @@
+pub mod BudgetLaws
+pub mod IdleLaws
 pub mod Proofs

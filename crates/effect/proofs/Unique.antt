@@ -22,10 +22,10 @@ leaves-unique g h = (
 )
 
 pub goes-on-unique : OneAnswer (effect.goes_on.Reads.Post tt)
-goes-on-unique a x y s = is-unique
+goes-on-unique a x y s t = is-unique
 
 pub stops-at-unique : OneAnswer (effect.stops_at.Reads.Post tt)
-stops-at-unique a x y s = is-unique
+stops-at-unique a x y s t = is-unique
 
 -- the result, and what the log's buffer holds at exit
 pub test-unique : (lent : Lfts 3) → OneOutcome (effect.guard.test.Reads.Post lent) (λ s. now (s .1 .1 .0))

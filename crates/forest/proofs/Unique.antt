@@ -29,7 +29,7 @@ listed-unique l x y p q = sym (back x) ∙ ap unlisted (is-unique p q) ∙ back 
 pub operands-unique :
     OneAnswer (forest.operands.of_expression.Reads.Post tt)
     × OneAnswer (forest.operands.of_statement.Reads.Post tt)
-operands-unique = (λ a x y s. listed-unique _ x y, λ a x y s. listed-unique _ x y)
+operands-unique = (λ a x y s t. listed-unique _ x y, λ a x y s t. listed-unique _ x y)
 
 pub checks-unique : (lent : Lfts 1) →
     OneAnswer (forest.uses.uses_once.Reads.Post lent)
@@ -37,4 +37,4 @@ pub checks-unique : (lent : Lfts 1) →
     × OneAnswer (forest.nesting.nestings_ok.Reads.Post lent)
     × OneAnswer (forest.scope.scopes_ok.Reads.Post lent)
     × OneAnswer (forest.rules.forest_ok.Reads.Post lent)
-checks-unique lent = (λ a x y s. is-unique, λ a x y s. is-unique, λ a x y s. is-unique, λ a x y s. is-unique, λ a x y s. is-unique)
+checks-unique lent = (λ a x y s t. is-unique, λ a x y s t. is-unique, λ a x y s t. is-unique, λ a x y s t. is-unique, λ a x y s t. is-unique)

@@ -6,13 +6,13 @@ use Rattle.word.proofs.Unique.{gives-unique}
 use Rattle.logs.proofs as logs
 
 pub above-unique : OneAnswer (logs.addresses.above.Reads.Post tt)
-above-unique a x y s = gives-unique
+above-unique a x y s t = gives-unique
 
 pub byte-at-unique : (lent : Lfts 1) → OneAnswer (logs.chain.byte_at.Reads.Post lent)
-byte-at-unique lent a x y s = is-unique
+byte-at-unique lent a x y s t = is-unique
 
 pub load-unique : (lent : Lfts 1) → OneAnswer (logs.load.load.Reads.Post lent)
-load-unique lent a x y s p q = is-unique (p .is) (q .is)
+load-unique lent a x y s t p q = is-unique (p .is) (q .is)
 
 -- the result, and what the buffer holds at exit
 pub store-unique : (lent : Lfts 1) → OneOutcome (logs.store.store.Reads.Post lent) (λ s. now (s .0))

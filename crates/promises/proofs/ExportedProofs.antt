@@ -20,8 +20,8 @@ use Rattle.demands.proofs.Proofs as Rules
 use Rattle.bil.specs.RunCall.{Left, left, numbers}
 use Rattle.bil.specs.RunCall as Outside
 use Rattle.promises.specs.Promises.{call}
-use Rattle.promises.specs.Exported.{CheckCode, CheckPlace, SealCode, SealPlace, RunCall, Exported, ExportedKept}
-use Rattle.promises.proofs.CodeLaws.{check-zero, seal-zero}
+use Rattle.promises.specs.Exported.{CheckCode, CheckPlace, SealCode, SealPlace, RunCall, Tells, Exported, ExportedKept}
+use Rattle.promises.proofs.CodeLaws.{check-zero, seal-zero, run-tells}
 use Rattle.promises.proofs.Proofs.{checks, seal-checks, runs, ref}
 
 check-code : {s : List ℕ} {n : ℕ} → CheckCode s n → n ≡ codeOf (check s)
@@ -79,6 +79,9 @@ exported =
         λ h. seal-code d ∙ ap codeOf (Rules.demand-2 .seal s .1 h),
       );
       run = λ s r o l c d h. with-room s o d h ∙ sym (ap (λ (x : Result). left 1 (x .state) (x .log) (numbers x)) (runs c));
+      ended = λ s r o l c d h.
+          subst (λ (x : Result). Tells (x .ending) (getD (l .out) 0 0)) (sym (runs c))
+          (subst (λ (y : Left). Tells (result s .ending) (getD (y .out) 0 0)) (sym (with-room s o d h)) (run-tells s));
       no-room = λ s o l d h. without s o d h;
       secret = λ s t o p l k z agreeing c d h i.
           let e = same (s .table) (Rules.demand-3 s t agreeing (seal-zero (s .table) (sym (seal-code z)))) in

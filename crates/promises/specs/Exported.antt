@@ -3,7 +3,7 @@
 use mathlib.Core.Path.{_≡_}
 use mathlib.Core.List.{List}
 use mathlib.Core.Logic.{_↔_}
-use Prim.Native.Nat.{ℕ}
+use Prim.Native.Nat.{ℕ, _≤_}
 use lib.ListN.{length, getD}
 use denote.Ref.{now}
 use Rattle.base.specs.declared.Answer.{Answer}
@@ -14,6 +14,8 @@ use Rattle.typing.specs.Verdict.{check}
 use Rattle.sealing.specs.Sealing.{SealHolds}
 use Rattle.sealing.specs.Verdict.{sealCheck}
 use Rattle.memory.specs.Log.{entries}
+use Rattle.running.specs.declared.Ending.{Ending}
+use Rattle.running.specs.declared.Ending.the-variants.{Done, Refused, Stopped}
 use Rattle.running.specs.Start.{Start}
 use Rattle.running.specs.Result.{Result}
 use Rattle.secrecy.specs.Agreement.{Agree, Agreeing}
@@ -53,6 +55,12 @@ RunCall =
 -- ------------------------------------------------------------------------------------------------
 -- What they give
 
+-- what a run's first number tells of its ending: 0 "done", 1 to 18 a refusal, 32 to 36 a stop
+pub data Tells : Ending → ℕ → Type 0 where
+  done : Tells Done 0
+  refused : {code place : ℕ} → 1 ≤ code → code ≤ 18 → Tells (Refused code place) code
+  stopped : {code statement : ℕ} → 32 ≤ code → code ≤ 36 → Tells (Stopped code statement) code
+
 pub record Exported : Type 0 where
   pub takes-table :
       AsksNothing bil.bil_check_code.Reads.Pre
@@ -70,6 +78,7 @@ pub record Exported : Type 0 where
   pub clean : (s : List ℕ) (n : ℕ) → SealCode s n → (n ≡ 0) ↔ (RulesHold s × SealHolds s)
   -- the run's buffers and its five numbers; nothing where there is no room for just these
   pub run : (s : Start) (r : Result) (o : List ℕ) (l : Left) → Runs s r → RunCall (s, o) l → length o ≡ 5 → l ≡ left 1 (r .state) (r .log) (numbers r)
+  pub ended : (s : Start) (r : Result) (o : List ℕ) (l : Left) → Runs s r → RunCall (s, o) l → length o ≡ 5 → Tells (r .ending) (getD (l .out) 0 0)
   pub no-room : (s : Start) (o : List ℕ) (l : Left) → RunCall (s, o) l → (length o ≡ 5 → ⊥) → l ≡ left 0 (s .state) (s .log) o
   -- demand 3: the same five numbers, the fourth of which is the log count, and the same final value of each open variable
   pub secret :

@@ -4,4 +4,4 @@ use Rattle.base.proofs.Unique.{OneAnswer, is-unique}
 use Rattle.reader.proofs as reader
 
 pub reads-unique : (lent : Lfts 1) → OneAnswer (reader.reads.Reads.Post lent)
-reads-unique lent a x y s = is-unique
+reads-unique lent a x y s t = is-unique

@@ -6,7 +6,7 @@ use Rattle.records.proofs as records
 pub refusals-unique : (lent : Lfts 1) →
     OneAnswer (records.variables.variables.Reads.Post lent)
     × OneAnswer (records.expressions.expressions.Reads.Post lent)
-refusals-unique lent = (λ a x y s. is-unique, λ a x y s. is-unique)
+refusals-unique lent = (λ a x y s t. is-unique, λ a x y s t. is-unique)
 
 pub fields-unique : (lent : Lfts 1) → OneAnswer (records.fields.variable_of.Reads.Post lent)
-fields-unique lent a x y s = is-unique
+fields-unique lent a x y s t = is-unique

@@ -29,7 +29,7 @@ gives-unique g h = (
 )
 
 pub numbers-unique : OneAnswer (runner.numbers.code_of.Reads.Post tt) × OneAnswer (runner.numbers.place_of.Reads.Post tt)
-numbers-unique = (λ a x y s. is-unique, λ a x y s. is-unique)
+numbers-unique = (λ a x y s t. is-unique, λ a x y s t. is-unique)
 
 pub run-unique : (lent : Lfts 3) → OneOutcome {X = Buffers} (runner.entry.run.Reads.Post lent) (λ s. (now (s .1 .0), now (s .1 .1 .0)))
 run-unique lent a x y s t = gives-unique

@@ -19,8 +19,9 @@ use Rattle.memory.proofs.LogRules.{InRoom}
 use Rattle.memory.specs.Typed.{Has}
 use Rattle.evaluation.specs.Evaluation.{Evaluated, value, stopped, eval}
 use Rattle.evaluation.proofs.Formed.{Formed, FormedBlock, f-end, f-move, f-jmp, f-cpuexn, f-special, f-while, f-if, formed-then}
-use Rattle.evaluation.proofs.EvaluationLaws.{Gives, gives, stops}
+use Rattle.evaluation.proofs.EvaluationLaws.{StopsBy, log-full, too-many-bindings, Gives, gives, stops}
 use Rattle.running.specs.declared.Ending.{Ending}
+use Rattle.running.specs.declared.Ending.the-variants.{Done, Stopped}
 use Rattle.running.specs.Run.{Left, left, stop, run, Guard, holds, fails, unsure, guard, target}
 use Rattle.running.proofs.EvaluationKeeps.{eval-keeps}
 use Rattle.running.proofs.PairLaws.{Declared, StateOk, state-stays, state-fits, state-moved}
@@ -39,6 +40,15 @@ ok-then (T-IF e b c d) k = T-IF e b c (ok-then d k)
 -- ------------------------------------------------------------------------------------------------
 -- What a run keeps
 
+-- the endings that a run has: done, or a stop of 32 to 36
+pub data EndsBy : Ending → Type 0 where
+  by-done : EndsBy Done
+  by-stop : {code n : ℕ} → 32 ≤ code → code ≤ 36 → EndsBy (Stopped code n)
+
+stop-ends : {code n : ℕ} → StopsBy code → EndsBy (Stopped code n)
+stop-ends log-full = by-stop {code = 34} (omega arith) (omega arith)
+stop-ends too-many-bindings = by-stop {code = 36} (omega arith) (omega arith)
+
 -- what a run of t ticks from a log leaves
 pub record Kept (s : List ℕ) (room t : ℕ) (L : Log) (l : Left) : Type 0 where
   pub state : StateOk s (l .log) (l .state)
@@ -46,6 +56,7 @@ pub record Kept (s : List ℕ) (room t : ℕ) (L : Log) (l : Left) : Type 0 wher
   pub grown : L ⊑ l .log
   pub next : l .next < 2 ^ header s .width
   pub remaining : l .remaining ≤ t
+  pub ends : EndsBy (l .ending)
 
 -- where a run stands: its state, log and next address
 pub record Stands (s : List ℕ) (room : ℕ) (σ : List ℕ) (L : Log) (a : ℕ) : Type 0 where
@@ -53,13 +64,13 @@ pub record Stands (s : List ℕ) (room : ℕ) (σ : List ℕ) (L : Log) (a : ℕ
   pub log : InRoom room L
   pub next : a < 2 ^ header s .width
 
-kept-left : {s σ : List ℕ} {room a : ℕ} {L : Log} (e : Ending) (t : ℕ) → Stands s room σ L a → Kept s room t L (left e t σ L a)
+kept-left : {s σ : List ℕ} {room a : ℕ} {L : Log} {e : Ending} (t : ℕ) → EndsBy e → Stands s room σ L a → Kept s room t L (left e t σ L a)
 unfolding left
-kept-left e t h = record { state = h .state; log = h .log; grown = stay; next = h .next; remaining = le-refl t }
+kept-left t e h = record { state = h .state; log = h .log; grown = stay; next = h .next; remaining = le-refl t; ends = e }
 
 -- a run that goes on later
 kept-later : {s : List ℕ} {room t : ℕ} {L M : Log} {l : Left} → L ⊑ M → Kept s room t M l → Kept s room (suc t) L l
-kept-later p k = record { state = k .state; log = k .log; grown = ⊑-trans p (k .grown); next = k .next; remaining = omega arith }
+kept-later p k = record { state = k .state; log = k .log; grown = ⊑-trans p (k .grown); next = k .next; remaining = omega arith; ends = k .ends }
 
 stands-later : {s σ : List ℕ} {room a : ℕ} {L M : Log} → L ⊑ M → InRoom room M → Stands s room σ L a → Stands s room σ M a
 stands-later p k h = record { state = state-stays p (h .state); log = k; next = h .next }
@@ -74,7 +85,7 @@ after :
     → Kept s room (suc t) L (elim r [ stopped code M ↦ stop code n t σ M a | value v M ↦ f v M ])
 unfolding stop
 after n t f h (gives p k g) rest = kept-later p (rest _ _ (stands-later p k h) g)
-after n t f h (stops p k c) rest = kept-later p (kept-left _ t (stands-later p k h))
+after n t f h (stops p k c) rest = kept-later p (kept-left t (stop-ends c) (stands-later p k h))
 
 at-guard :
     {s : List ℕ} {room t : ℕ} {L : Log} {x y z : Left} (g : Guard) → Kept s room t L x → Kept s room t L y → Kept s room t L z
@@ -107,25 +118,25 @@ module _ (s : List ℕ) (variables : (x : ℕ) → x < header s .variables → D
       (t : ℕ) {k : Block} → Ok (context s) (header s .width) k → FormedBlock s k → {σ : List ℕ} {L : Log} {a : ℕ} → Stands s room σ L a
       → Kept s room t L (run (context s) room t k σ L a)
   unfolding run
-  run-keeps zero T-END f h = kept-left _ 0 h
-  run-keeps zero (T-MOVE e k) f h = kept-left _ 0 h
-  run-keeps zero (T-JMP e k) f h = kept-left _ 0 h
-  run-keeps zero (T-CPUEXN k) f h = kept-left _ 0 h
-  run-keeps zero (T-SPECIAL k) f h = kept-left _ 0 h
-  run-keeps zero (T-WHILE e b k) f h = kept-left _ 0 h
-  run-keeps zero (T-IF e b c k) f h = kept-left _ 0 h
-  run-keeps (suc t) T-END f-end h = kept-left _ (suc t) h
+  run-keeps zero T-END f h = kept-left 0 by-done h
+  run-keeps zero (T-MOVE e k) f h = kept-left 0 (by-stop (omega arith) (omega arith)) h
+  run-keeps zero (T-JMP e k) f h = kept-left 0 (by-stop (omega arith) (omega arith)) h
+  run-keeps zero (T-CPUEXN k) f h = kept-left 0 (by-stop (omega arith) (omega arith)) h
+  run-keeps zero (T-SPECIAL k) f h = kept-left 0 (by-stop (omega arith) (omega arith)) h
+  run-keeps zero (T-WHILE e b k) f h = kept-left 0 (by-stop (omega arith) (omega arith)) h
+  run-keeps zero (T-IF e b c k) f h = kept-left 0 (by-stop (omega arith) (omega arith)) h
+  run-keeps (suc t) T-END f-end h = kept-left (suc t) by-done h
   run-keeps (suc t) (T-MOVE {n = n} {x = x} e k) (f-move y r fe fk) h =
       after n t _ h (evaluated h e fe) λ v M g hv.
       run-keeps t k fk (record { state = state-moved s variables x v y r hv (g .state); log = g .log; next = g .next })
   run-keeps (suc t) (T-JMP {n = n} e k) (f-jmp fe fk) h =
       after n t _ h (evaluated h e fe) λ v M g hv.
-      at-target v _ hv (kept-left _ t g) λ d l. run-keeps t k fk (record { state = g .state; log = g .log; next = l })
+      at-target v _ hv (kept-left t (by-stop (omega arith) (omega arith)) g) λ d l. run-keeps t k fk (record { state = g .state; log = g .log; next = l })
   run-keeps (suc t) (T-CPUEXN k) (f-cpuexn fk) h = kept-later stay (run-keeps t k fk h)
   run-keeps (suc t) (T-SPECIAL k) (f-special fk) h = kept-later stay (run-keeps t k fk h)
   run-keeps (suc t) (T-WHILE {n = n} e b k) (f-while fe fb fk) h =
       after n t _ h (evaluated h e fe) λ v M g hv.
-      at-guard (guard v) (run-keeps t (ok-then b (T-WHILE e b k)) (formed-then fb (f-while fe fb fk)) g) (run-keeps t k fk g) (kept-left _ t g)
+      at-guard (guard v) (run-keeps t (ok-then b (T-WHILE e b k)) (formed-then fb (f-while fe fb fk)) g) (run-keeps t k fk g) (kept-left t (by-stop (omega arith) (omega arith)) g)
   run-keeps (suc t) (T-IF {n = n} e b c k) (f-if fe fb fc fk) h =
       after n t _ h (evaluated h e fe) λ v M g hv.
-      at-guard (guard v) (run-keeps t (ok-then b k) (formed-then fb fk) g) (run-keeps t (ok-then c k) (formed-then fc fk) g) (kept-left _ t g)
+      at-guard (guard v) (run-keeps t (ok-then b k) (formed-then fb fk) g) (run-keeps t (ok-then c k) (formed-then fc fk) g) (kept-left t (by-stop (omega arith) (omega arith)) g)

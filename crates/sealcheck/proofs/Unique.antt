@@ -6,4 +6,4 @@ use Rattle.sealcheck.proofs as sealcheck
 pub sealcheck-unique : (lent : Lfts 1) →
     OneAnswer (sealcheck.walk.label_at.Reads.Post lent)
     × OneAnswer (sealcheck.verdict.seals_ok.Reads.Post lent)
-sealcheck-unique lent = (λ a x y s. is-unique, λ a x y s. is-unique)
+sealcheck-unique lent = (λ a x y s t. is-unique, λ a x y s t. is-unique)

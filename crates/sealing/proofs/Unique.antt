@@ -9,11 +9,11 @@ pub ops-unique :
     × OneAnswer (sealing.ops.load.Reads.Post tt)
     × OneAnswer (sealing.ops.store.Reads.Post tt)
     × OneAnswer (sealing.ops.lets.Reads.Post tt)
-ops-unique = (λ a x y s. is-unique, λ a x y s. is-unique, λ a x y s. is-unique, λ a x y s. is-unique, λ a x y s. is-unique)
+ops-unique = (λ a x y s t. is-unique, λ a x y s t. is-unique, λ a x y s t. is-unique, λ a x y s t. is-unique, λ a x y s t. is-unique)
 
 pub by-op-unique : (lent : Lfts 1) →
     OneAnswer (sealing.by_op.is_sealed.Reads.Post lent)
     × OneAnswer (sealing.by_op.leaf.Reads.Post lent)
     × OneAnswer (sealing.by_op.two.Reads.Post lent)
     × OneAnswer (sealing.by_op.three.Reads.Post tt)
-by-op-unique lent = (λ a x y s. is-unique, λ a x y s. is-unique, λ a x y s. is-unique, λ a x y s. is-unique)
+by-op-unique lent = (λ a x y s t. is-unique, λ a x y s t. is-unique, λ a x y s t. is-unique, λ a x y s t. is-unique)

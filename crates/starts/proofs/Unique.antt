@@ -6,11 +6,11 @@ use Rattle.starts.proofs as starts
 pub entries-unique : (lent : Lfts 1) →
     OneAnswer (starts.entries.head_ok.Reads.Post lent)
     × OneAnswer (starts.entries.entries_ok.Reads.Post lent)
-entries-unique lent = (λ a x y s. is-unique, λ a x y s. is-unique)
+entries-unique lent = (λ a x y s t. is-unique, λ a x y s t. is-unique)
 
 pub pairs-unique : (lent : Lfts 3) → OneAnswer (starts.pairs.pairs_ok.Reads.Post lent)
-pairs-unique lent a x y s = is-unique
+pairs-unique lent a x y s t = is-unique
 
 -- its promise is for every budget, so at one
 pub starts-unique : (lent : Lfts 3) → OneAnswer (starts.rules.starts_ok.Reads.Post lent)
-starts-unique lent a x y s p q = is-unique (p 0) (q 0)
+starts-unique lent a x y s t p q = is-unique (p 0) (q 0)

@@ -5,16 +5,16 @@ use Rattle.base.proofs.Unique.{OneAnswer, OneContent, is-unique}
 use Rattle.states.proofs as states
 
 pub value-of-unique : OneAnswer (states.value_of.Reads.Post tt)
-value-of-unique a x y s = is-unique
+value-of-unique a x y s t = is-unique
 
 pub kind-of-unique : OneAnswer (states.kind_of.Reads.Post tt)
-kind-of-unique a x y s = is-unique
+kind-of-unique a x y s t = is-unique
 
 pub number-of-unique : OneAnswer (states.number_of.Reads.Post tt)
-number-of-unique a x y s = is-unique
+number-of-unique a x y s t = is-unique
 
 pub read-unique : (lent : Lfts 1) → OneAnswer (states.read.Reads.Post lent)
-read-unique lent a x y s = is-unique
+read-unique lent a x y s t = is-unique
 
 pub write-unique : (lent : Lfts 1) → OneContent (states.write.Reads.Post lent) (λ s. now (s .0))
 write-unique lent a x y s t = is-unique

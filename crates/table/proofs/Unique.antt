@@ -8,7 +8,7 @@ pub bytes-unique : (lent : Lfts 1) →
     × OneAnswer (table.bytes.variable.Reads.Post lent)
     × OneAnswer (table.bytes.expression.Reads.Post lent)
     × OneAnswer (table.bytes.statement.Reads.Post lent)
-bytes-unique lent = (λ a x y s. is-unique, λ a x y s. is-unique, λ a x y s. is-unique, λ a x y s. is-unique)
+bytes-unique lent = (λ a x y s t. is-unique, λ a x y s t. is-unique, λ a x y s t. is-unique, λ a x y s t. is-unique)
 
 pub framing-unique : (lent : Lfts 1) → OneAnswer (table.framing.framing.Reads.Post lent)
-framing-unique lent a x y s = is-unique
+framing-unique lent a x y s t = is-unique

@@ -10,9 +10,9 @@ pub types-unique : (lent : Lfts 1) →
     × OneAnswer (typecheck.walk.type_at.Reads.Post lent)
     × OneAnswer (typecheck.verdict.types_ok.Reads.Post lent)
 types-unique lent = (
-  λ a x y s. is-unique,
-  λ a x y s. is-unique,
-  λ a x y s. is-unique,
-  λ a x y s. is-unique,
-  λ a x y s. is-unique,
+  λ a x y s t. is-unique,
+  λ a x y s t. is-unique,
+  λ a x y s t. is-unique,
+  λ a x y s t. is-unique,
+  λ a x y s t. is-unique,
 )

@@ -15,16 +15,16 @@ pub ops-unique :
     × OneAnswer (typing.ops.extract.Reads.Post tt)
     × OneAnswer (typing.ops.concat.Reads.Post tt)
 ops-unique = (
-  λ a x y s. is-unique,
-  λ a x y s. is-unique,
-  λ a x y s. is-unique,
-  λ a x y s. is-unique,
-  λ a x y s. is-unique,
-  λ a x y s. is-unique,
-  λ a x y s. is-unique,
-  λ a x y s. is-unique,
-  λ a x y s. is-unique,
-  λ a x y s. is-unique,
+  λ a x y s t. is-unique,
+  λ a x y s t. is-unique,
+  λ a x y s t. is-unique,
+  λ a x y s t. is-unique,
+  λ a x y s t. is-unique,
+  λ a x y s t. is-unique,
+  λ a x y s t. is-unique,
+  λ a x y s t. is-unique,
+  λ a x y s t. is-unique,
+  λ a x y s t. is-unique,
 )
 
 pub by-op-unique : (lent : Lfts 1) →
@@ -36,11 +36,11 @@ pub by-op-unique : (lent : Lfts 1) →
     × OneAnswer (typing.by_op.two.Reads.Post lent)
     × OneAnswer (typing.by_op.three.Reads.Post tt)
 by-op-unique lent = (
-  λ a x y s. is-unique,
-  λ a x y s. is-unique,
-  λ a x y s. is-unique,
-  λ a x y s. is-unique,
-  λ a x y s. is-unique,
-  λ a x y s. is-unique,
-  λ a x y s. is-unique,
+  λ a x y s t. is-unique,
+  λ a x y s t. is-unique,
+  λ a x y s t. is-unique,
+  λ a x y s t. is-unique,
+  λ a x y s t. is-unique,
+  λ a x y s t. is-unique,
+  λ a x y s t. is-unique,
 )

@@ -13,7 +13,7 @@ pub types-unique :
     OneAnswer (value.binary_width.Reads.Post tt)
     × OneAnswer (value.ValueType.size.Reads.Post tt)
     × OneAnswer (value.Value.type_of.Reads.Post tt)
-types-unique = (λ a x y s. is-unique, λ a x y s. is-unique, λ a x y s. is-unique)
+types-unique = (λ a x y s t. is-unique, λ a x y s t. is-unique, λ a x y s t. is-unique)
 
 pub operations-unique :
     OneAnswer (value.Value.binary.Reads.Post tt)
@@ -23,10 +23,10 @@ pub operations-unique :
     × OneAnswer (value.Value.concat.Reads.Post tt)
     × OneAnswer (value.Value.choose.Reads.Post tt)
 operations-unique = (
-  λ a x y s. yields-unique,
-  λ a x y s. yields-unique,
-  λ a x y s. yields-unique,
-  λ a x y s. yields-unique,
-  λ a x y s. yields-unique,
-  λ a x y s. yields-unique,
+  λ a x y s t. yields-unique,
+  λ a x y s t. yields-unique,
+  λ a x y s t. yields-unique,
+  λ a x y s t. yields-unique,
+  λ a x y s t. yields-unique,
+  λ a x y s t. yields-unique,
 )

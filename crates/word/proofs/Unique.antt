@@ -24,27 +24,27 @@ pub width-unique :
     × OneAnswer (word.width.sign_bit.Reads.Post tt)
     × OneAnswer (word.width.negative.Reads.Post tt)
     × OneAnswer (word.width.fits.Reads.Post tt)
-width-unique = (λ a x y s. is-unique, λ a x y s. gives-unique, λ a x y s. is-unique, λ a x y s. is-unique, λ a x y s. is-unique)
+width-unique = (λ a x y s t. is-unique, λ a x y s t. gives-unique, λ a x y s t. is-unique, λ a x y s t. is-unique, λ a x y s t. is-unique)
 
 pub arithmetic-unique :
     OneAnswer (word.arithmetic.plus.Reads.Post tt)
     × OneAnswer (word.arithmetic.minus.Reads.Post tt)
     × OneAnswer (word.arithmetic.times.Reads.Post tt)
     × OneAnswer (word.arithmetic.neg.Reads.Post tt)
-arithmetic-unique = (λ a x y s. gives-unique, λ a x y s. gives-unique, λ a x y s. gives-unique, λ a x y s. gives-unique)
+arithmetic-unique = (λ a x y s t. gives-unique, λ a x y s t. gives-unique, λ a x y s t. gives-unique, λ a x y s t. gives-unique)
 
 pub bits-unique :
     OneAnswer (word.bits.and.Reads.Post tt)
     × OneAnswer (word.bits.or.Reads.Post tt)
     × OneAnswer (word.bits.xor.Reads.Post tt)
     × OneAnswer (word.bits.not.Reads.Post tt)
-bits-unique = (λ a x y s. gives-unique, λ a x y s. gives-unique, λ a x y s. gives-unique, λ a x y s. gives-unique)
+bits-unique = (λ a x y s t. gives-unique, λ a x y s t. gives-unique, λ a x y s t. gives-unique, λ a x y s t. gives-unique)
 
 pub shift-unique :
     OneAnswer (word.shift.lsl.Reads.Post tt)
     × OneAnswer (word.shift.lsr.Reads.Post tt)
     × OneAnswer (word.shift.asr.Reads.Post tt)
-shift-unique = (λ a x y s. gives-unique, λ a x y s. gives-unique, λ a x y s. gives-unique)
+shift-unique = (λ a x y s t. gives-unique, λ a x y s t. gives-unique, λ a x y s t. gives-unique)
 
 pub compare-unique :
     OneAnswer (word.compare.eq.Reads.Post tt)
@@ -54,12 +54,12 @@ pub compare-unique :
     × OneAnswer (word.compare.slt.Reads.Post tt)
     × OneAnswer (word.compare.sle.Reads.Post tt)
 compare-unique = (
-  λ a x y s. gives-unique,
-  λ a x y s. gives-unique,
-  λ a x y s. gives-unique,
-  λ a x y s. gives-unique,
-  λ a x y s. gives-unique,
-  λ a x y s. gives-unique,
+  λ a x y s t. gives-unique,
+  λ a x y s t. gives-unique,
+  λ a x y s t. gives-unique,
+  λ a x y s t. gives-unique,
+  λ a x y s t. gives-unique,
+  λ a x y s t. gives-unique,
 )
 
 pub division-unique :
@@ -67,22 +67,22 @@ pub division-unique :
     × OneAnswer (word.division.modulo.Reads.Post tt)
     × OneAnswer (word.division.sdiv.Reads.Post tt)
     × OneAnswer (word.division.smod.Reads.Post tt)
-division-unique = (λ a x y s. computes-unique, λ a x y s. computes-unique, λ a x y s. computes-unique, λ a x y s. computes-unique)
+division-unique = (λ a x y s t. computes-unique, λ a x y s t. computes-unique, λ a x y s t. computes-unique, λ a x y s t. computes-unique)
 
 pub casts-unique :
     OneAnswer (word.casts.low.Reads.Post tt)
     × OneAnswer (word.casts.high.Reads.Post tt)
     × OneAnswer (word.casts.signed.Reads.Post tt)
     × OneAnswer (word.casts.unsigned.Reads.Post tt)
-casts-unique = (λ a x y s. gives-unique, λ a x y s. gives-unique, λ a x y s. gives-unique, λ a x y s. gives-unique)
+casts-unique = (λ a x y s t. gives-unique, λ a x y s t. gives-unique, λ a x y s t. gives-unique, λ a x y s t. gives-unique)
 
 pub join-unique :
     OneAnswer (word.join.extract.Reads.Post tt)
     × OneAnswer (word.join.concat.Reads.Post tt)
-join-unique = (λ a x y s. gives-unique, λ a x y s. gives-unique)
+join-unique = (λ a x y s t. gives-unique, λ a x y s t. gives-unique)
 
 pub subs-unique :
     OneAnswer (word.binary.Reads.Post tt)
     × OneAnswer (word.unary.Reads.Post tt)
     × OneAnswer (word.cast.Reads.Post tt)
-subs-unique = (λ a x y s. computes-unique, λ a x y s. computes-unique, λ a x y s. computes-unique)
+subs-unique = (λ a x y s t. computes-unique, λ a x y s t. computes-unique, λ a x y s t. computes-unique)
