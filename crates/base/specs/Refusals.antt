@@ -1,4 +1,4 @@
--- "Codes 1 to 18 come in the order of their numbers, the lowest place first." Assumes nothing.
+-- "Codes 1 to 18 come in the order of their numbers, the lowest place first". Assumes nothing.
 use mathlib.Core.Path.{_≡_}
 use mathlib.Core.Bool.{Bool, true, false}
 use mathlib.Core.List.{List, [], _∷_}
@@ -55,7 +55,7 @@ refusal (rule ∷ later) =
 abbrev pub whole : ℕ → Bool → Rule
 whole code holds = record { code = code; places = 1; holds = λ place. holds }
 
--- the numbers given back: "0 accepted, clean, done", at place 0
+-- "Check and seal check give code and place": 0 is "accepted, clean, done", with place 0
 abbrev pub codeOf : Answer → ℕ
 codeOf Accepted = 0
 codeOf (Refused code place) = code
@@ -63,3 +63,8 @@ codeOf (Refused code place) = code
 abbrev pub placeOf : Answer → ℕ
 placeOf Accepted = 0
 placeOf (Refused code place) = place
+
+-- the answer of two rules of which the second is broken at a place, by that of the first: "in the order of their numbers"
+abbrev pub orRefused : Answer → ℕ → ℕ → Answer
+orRefused Accepted code place = Refused code place
+orRefused (Refused earlier at) code place = Refused earlier at

@@ -1,7 +1,9 @@
 // What every layer shares: the answer of a check, and a test of a number. The rest is definitions and laws.
+pub mod codes;
+
 ghost use mathlib.Core.Path.{_≡_};
 ghost use Rattle.base.specs.Choice as Choice;
-ghost use Rattle.base.specs.Refusals.{codeOf, placeOf};
+ghost use Rattle.base.specs.Refusals.{codeOf, placeOf, orRefused};
 
 // The answer of a check.
 pub enum Answer {
@@ -28,6 +30,16 @@ pub fn place_of(a: Answer) -> u32
     match a {
         Answer::Accepted => 0,
         Answer::Refused(_, place) => place,
+    }
+}
+
+// The answer of two rules of which the second is broken at a place: the first rule's refusal, and where it accepts that of the second.
+pub fn or_refused(first: Answer, code: u32, place: u32) -> Answer
+    ensures { λ r. ⌜ r ≡ orRefused first code place ⌝ }
+{
+    match first {
+        Answer::Accepted => Answer::Refused(code, place),
+        Answer::Refused(earlier, at) => Answer::Refused(earlier, at),
     }
 }
 

@@ -1,3 +1,2 @@
-pub mod CheckedLaws
 pub mod ReportLaws
 pub mod Unique

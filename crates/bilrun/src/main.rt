@@ -69,6 +69,7 @@ fn accepted(table: &[u8], out: &mut [u8], at: usize) -> usize
     let h = header(table);
     let seal = seal_check(table);
     let sealed = answer_line(out, at, b"seal", code_of(seal), place_of(seal));
+    // Two numbers for each of 256 variables, four for each of 2,048 entries.
     let mut state = [0u64; 512];
     let mut log = [0u64; 8192];
     let size = 2 * (h.variables as usize);

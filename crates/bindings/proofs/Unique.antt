@@ -1,5 +1,6 @@
 -- No second answer fits: the contract of each public function leaves one result. Assumes nothing.
-use Rattle.base.proofs.Unique.{OneAnswer, is-unique}
+use Rattle.base.specs.OneAnswer.{OneAnswer}
+use Rattle.base.proofs.Unique.{is-unique}
 use Rattle.bindings.proofs as bindings
 
 pub none-unique : OneAnswer (bindings.Bindings.none.Reads.Post tt)

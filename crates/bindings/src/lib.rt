@@ -17,6 +17,7 @@ pub struct Bindings {
     pub count: usize,
 }
 
+// What is found for a variable.
 pub enum Found {
     // The value of the innermost binding of a variable.
     Bound(Value),
@@ -33,7 +34,7 @@ pub const MEMORY: u8 = 3;
 
 pub const UNKNOWN_MEMORY: u8 = 4;
 
-// The value of a kind, a width and a number.
+// The value of a kind, a width and a number: an unknown word for any number that is no kind.
 fn value_of(kind: u8, width: u8, number: u64) -> Value
     ensures { λ r. ⌜ r ≡ valueHeld kind width number ⌝ }
 {
@@ -90,7 +91,7 @@ impl Bindings {
         self
     }
 
-    // The value of a variable's innermost binding.
+    // The value of a variable's innermost binding, or that it is free.
     pub fn find(self, x: u32) -> Found
         requires { ⌜ self .count ≤ mostBindings ⌝ }
         ensures { λ r. ⌜ r ≡ found (bindingsOf self) x ⌝ }

@@ -1,6 +1,7 @@
 -- No second answer fits: the contract of each public function leaves one result. Assumes nothing.
 use contract.Lifetimes.{Lfts}
-use Rattle.base.proofs.Unique.{OneAnswer, is-unique}
+use Rattle.base.specs.OneAnswer.{OneAnswer}
+use Rattle.base.proofs.Unique.{is-unique}
 use Rattle.blocks.proofs as blocks
 
 pub statements-unique : (lent : Lfts 1) → OneAnswer (blocks.statements.statements.Reads.Post lent)

@@ -12,11 +12,13 @@ ghost use Rattle.table.specs.Records.{Framed};
 ghost use Rattle.blocks.specs.Owners as Owners;
 use crate::bodies;
 use base::Answer;
+use base::codes;
 use records::fields::variable_of;
 use table::Header;
 use table::Node;
 use table::ROLE_STATE;
 use table::bytes;
+use table::framing::MOST_STATEMENTS;
 use table::ops;
 
 // Whether x is the number of a state variable.
@@ -78,7 +80,7 @@ fn pass(s: &[u8], h: Header, owners: &mut [u16]) -> Answer
     while i < count {
         let owner = bodies::owner_of(s, h, owners, i);
         if !holds(s, h, i, owner) {
-            return Answer::Refused(7, i as u32);
+            return Answer::Refused(codes::STATEMENT, i as u32);
         }
         owners[i] = owner;
         i += 1;
@@ -96,6 +98,6 @@ pub fn statements(s: &[u8], h: Header) -> Answer
         let mut few = [0u16; 64];
         return pass(s, h, &mut few[..]);
     }
-    let mut owners = [0u16; 1024];
+    let mut owners = [0u16; MOST_STATEMENTS as usize];
     pass(s, h, &mut owners[..])
 }

@@ -1,5 +1,5 @@
--- The three demands of the customer, each in the order of its words. proofs/Proofs.antt proves them of the rules' own entries.
--- Assumes nothing.
+-- The three demands of the customer, each in the order of its words. The words quoted above each are the mission's: paper 01 names the
+-- demands by their numbers alone. proofs/Proofs.antt proves them of the rules' own entries. Assumes nothing.
 use mathlib.Core.Path.{_≡_}
 use mathlib.Core.Bool.{Bool, false}
 use mathlib.Core.List.{List, _++_}

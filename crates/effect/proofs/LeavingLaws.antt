@@ -2,14 +2,13 @@
 use mathlib.Core.Path.{_≡_, refl, sym, ap, subst, _∙_}
 use mathlib.Core.List.{List, []}
 use mathlib.Core.Option.{Option, none, some}
-use Prim.Native.Nat.{ℕ, _/_, _<_}
+use Prim.Native.Nat.{ℕ, _<_}
 use native.Mathlib.Omega.{arith}
-use lib.ListN.{length}
 use Rattle.value.specs.declared.ValueType.{ValueType}
 use Rattle.value.specs.declared.Value.{Value}
 use Rattle.table.specs.Bytes.{header}
 use Rattle.table.specs.Decode.{context, expr}
-use Rattle.memory.specs.Log.{entrySize, entries}
+use Rattle.memory.specs.Log.{entries, roomIn}
 use Rattle.memory.proofs.LogLaws.{stay, length-entries}
 use Rattle.logs.proofs.HoldingLaws.{holding-entries}
 use Rattle.evaluation.specs.Evaluation as E
@@ -29,7 +28,7 @@ use Rattle.evaluate.proofs.WentLaws.{Went, Known}
 use Rattle.evaluate.proofs.ArmLaws.{Call, known-call, valued, ended}
 use Rattle.effect.specs.declared.guard.Tested.{Tested}
 use Rattle.effect.specs.declared.guard.Tested.the-variants.{Stops}
-use Rattle.effect.specs.Leaving.{Running, RunLeaves, goesOn, stopsAt, jumpOf, testOf, tested, TestLeaves}
+use Rattle.effect.specs.Leaving.{Running, RunLeaves, goesOn, stopsAt, jumpOf, testOf, tested, TestLeaves, evaluated}
 
 -- ------------------------------------------------------------------------------------------------
 -- Evaluation from where a run stands
@@ -62,14 +61,14 @@ module _ {s σ l : List ℕ} {n a : ℕ} (here : Running s σ l n a) where
   }
 
   abbrev evaluation : ℕ → E.Evaluated
-  evaluation e = E.eval (context s) (length l / entrySize) σ (expr s e) [] (entries l n)
+  evaluation e = evaluated s σ l n e
 
   -- an evaluation without bindings, by what it gave
   module _ {m : List ℕ} {r : Evaluated} (e : ℕ) (inside : e < header s .expressions) (left : Call s σ l Bound.none n e r m) where
     known-here : (t : ValueType) × Known l n t (evaluation e) r m
     known-here =
         let (t, k) = known-call ready e inside left in
-        (t, subst (λ (ρ : List Binding). Known l n t (E.eval (context s) (length l / entrySize) σ (expr s e) ρ (entries l n)) r m) bindings-none k)
+        (t, subst (λ (ρ : List Binding). Known l n t (E.eval (context s) (roomIn l) σ (expr s e) ρ (entries l n)) r m) bindings-none k)
 
     pub gave : {v : Value} {k : ℕ} → r ≡ Of v k → Went l n m k × (evaluation e ≡ E.value v (entries m k))
     gave p = let (t, k) = known-here in let h = valued k p in (h .went, h .is)
@@ -123,8 +122,8 @@ tested-by (E.stopped code L) = refl
 
 pub test-leaves :
     {l m : List ℕ} {r : Evaluated} {t : Tested} (s σ : List ℕ) (n e : ℕ) → Call s σ l Bound.none n e r m → t ≡ testedBy r
-    → TestLeaves l (E.eval (context s) (length l / entrySize) σ (expr s e) [] (entries l n)) t m
+    → TestLeaves l (evaluated s σ l n e) t m
 test-leaves {l} {m} {r} {t} s σ n e left is =
-    let whole : List Binding → E.Evaluated = λ ρ. E.eval (context s) (length l / entrySize) σ (expr s e) ρ (entries l n) in
+    let whole : List Binding → E.Evaluated = λ ρ. E.eval (context s) (roomIn l) σ (expr s e) ρ (entries l n) in
     let here : Leaves l (whole []) r m = subst (λ (ρ : List Binding). Leaves l (whole ρ) r m) bindings-none left in
     record { is = is ∙ ap testedBy (here .is) ∙ tested-by (whole []); holds = here .holds }

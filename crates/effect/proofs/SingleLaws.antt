@@ -1,23 +1,23 @@
 -- What the functions of statements without bodies ask and leave. Assumes nothing.
 use mathlib.Core.Path.{_≡_, sym, ap, subst, _∙_}
 use mathlib.Core.List.{List}
-use Prim.Native.Nat.{ℕ, suc, _+_, _*_, _/_, _<_}
+use Prim.Native.Nat.{ℕ, suc, _+_, _*_, _<_}
 use native.Mathlib.Omega.{arith}
 use lib.ListN.{length}
 use Rattle.value.specs.declared.Value.{Value}
 use Rattle.table.specs.declared.Node.{Node}
 use Rattle.table.specs.Bytes.{header, statement}
 use Rattle.table.specs.Decode.{context, blockAt}
-use Rattle.memory.specs.Log.{entrySize, entries}
+use Rattle.memory.specs.Log.{entries, roomIn}
 use Rattle.evaluation.specs.State.{moved}
 use Rattle.bindings.specs.Bound as Bound
 use Rattle.operation.specs.declared.Evaluated.{Evaluated}
 use Rattle.operation.specs.declared.Evaluated.the-variants as Ended
 use Rattle.running.specs.declared.Ending.the-variants.{Done, Stopped}
-use Rattle.running.specs.Run.{Left, stop, run}
+use Rattle.running.specs.Run.{Left, stop}
 use Rattle.evaluate.proofs.ArmLaws.{Call}
 use Rattle.effect.specs.declared.Ran.{Ran}
-use Rattle.effect.specs.Leaving.{Running, Standing, RunLeaves, goesOn, stopsAt, jumpOf}
+use Rattle.effect.specs.Leaving.{Running, Standing, RunLeaves, goesOn, stopsAt, jumpOf, runs}
 use Rattle.effect.proofs.AloneLaws.{move-value, move-stops, jmp-value, jmp-stops, cpuexn-alone, special-alone}
 use Rattle.effect.proofs.LeavingLaws.{gave, stopped, leaves-left, leaves-jump, stays}
 use Rattle.effect.proofs.StandingLaws.{inside, move-fields, read-field, other-op}
@@ -27,7 +27,7 @@ module _ {s σ l : List ℕ} {n a i : ℕ} {r : Node} (here : Running s σ l n a
   op-is e = sym (ap (λ (q : Node). q .op) is) ∙ e
 
   abbrev alone : ℕ → Left
-  alone t = run (context s) (length l / entrySize) (suc t) (blockAt s i 1) σ (entries l n) a
+  alone t = runs s σ l n a (suc t) (blockAt s i 1)
 
   here-inside : i < header s .statements
   here-inside = inside (here .records) at
@@ -53,7 +53,7 @@ module _ {s σ l : List ℕ} {n a i : ℕ} {r : Node} (here : Running s σ l n a
           let now : τ ≡ moved σ (statement s i .a) v = wrote ∙ ap (λ (q : Node). moved σ (q .a) v) is in
           subst (λ (y : Ran). RunLeaves l (alone t) y τ m) (sym same)
           (subst (λ (τ : List ℕ). RunLeaves l (alone t) (goesOn t k a) τ m) (sym now)
-          (leaves-left Done w (move-value s i here-inside (length l / entrySize) σ (entries l n) t a (op-is op) p)))
+          (leaves-left Done w (move-value s i here-inside (roomIn l) σ (entries l n) t a (op-is op) p)))
 
       pub moves-not : {code k : ℕ} {y : Ran} (t : ℕ) → x ≡ Ended.Stopped code k → y ≡ stopsAt code i t k a → RunLeaves l (alone t) y σ m
       unfolding stop
@@ -61,7 +61,7 @@ module _ {s σ l : List ℕ} {n a i : ℕ} {r : Node} (here : Running s σ l n a
           let f = move-fields (here .records) at (op-is op) in
           let (w, p) = stopped here (statement s i .b) (f .2) first e in
           subst (λ (y : Ran). RunLeaves l (alone t) y σ m) (sym same)
-          (leaves-left (Stopped code i) w (move-stops s i here-inside (length l / entrySize) σ (entries l n) t a (op-is op) p))
+          (leaves-left (Stopped code i) w (move-stops s i here-inside (roomIn l) σ (entries l n) t a (op-is op) p))
 
   -- a jump
   module _ (op : r .op ≡ 2) where
@@ -81,21 +81,21 @@ module _ {s σ l : List ℕ} {n a i : ℕ} {r : Node} (here : Running s σ l n a
       jumps-on {v} {k} t e same =
           let (w, p) = gave here (statement s i .a) field second e in
           subst (λ (y : Ran). RunLeaves l (alone t) y σ m) (sym same)
-          (leaves-jump t a i v w (jmp-value s i here-inside (length l / entrySize) σ (entries l n) t a (op-is op) p))
+          (leaves-jump t a i v w (jmp-value s i here-inside (roomIn l) σ (entries l n) t a (op-is op) p))
 
       pub jumps-not : {code k : ℕ} {y : Ran} (t : ℕ) → x ≡ Ended.Stopped code k → y ≡ stopsAt code i t k a → RunLeaves l (alone t) y σ m
       unfolding stop
       jumps-not {code} {k} t e same =
           let (w, p) = stopped here (statement s i .a) field second e in
           subst (λ (y : Ran). RunLeaves l (alone t) y σ m) (sym same)
-          (leaves-left (Stopped code i) w (jmp-stops s i here-inside (length l / entrySize) σ (entries l n) t a (op-is op) p))
+          (leaves-left (Stopped code i) w (jmp-stops s i here-inside (roomIn l) σ (entries l n) t a (op-is op) p))
 
   -- cpuexn and special
   pub passes : {y : Ran} (t : ℕ) → (r .op ≡ 1 → ⊥) → (r .op ≡ 2 → ⊥) → (r .op ≡ 5 → ⊥) → (r .op ≡ 6 → ⊥) → y ≡ goesOn t n a
       → RunLeaves l (alone t) y σ l
   passes t n1 n2 n5 n6 same =
       let same-op = ap (λ (q : Node). q .op) is in
-      let room = length l / entrySize in
+      let room = roomIn l in
       let unmoved = stays here in
       subst (λ (y : Ran). RunLeaves l (alone t) y σ l) (sym same)
       (other-op (here .records) at (λ e. n1 (same-op ∙ e)) (λ e. n2 (same-op ∙ e)) (λ e. n5 (same-op ∙ e)) (λ e. n6 (same-op ∙ e))

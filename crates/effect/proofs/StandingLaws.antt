@@ -9,7 +9,7 @@ use Rattle.table.specs.Decode.{context, blockAt}
 use Rattle.table.specs.Syntax.{Block}
 use Rattle.table.proofs.View.{Reads, r-move, r-jmp, r-cpuexn, r-special, r-while, r-if}
 use Rattle.table.proofs.Program.{block-reads, program-reads}
-use Rattle.table.proofs.Nesting.{IsBlock}
+use Rattle.table.specs.Asked.{IsBlock}
 use Rattle.table.proofs.ExpressionLaws.{expr-view}
 use Rattle.typing.specs.Typing.{Ok, TypingHolds}
 use Rattle.typing.proofs.BlockLaws.{statements-ok-iff, type-rules-iff}

@@ -4,7 +4,8 @@ use mathlib.Core.List.{List}
 use Prim.Native.Nat.{ℕ}
 use contract.Lifetimes.{Lfts}
 use denote.Ref.{now}
-use Rattle.base.proofs.Unique.{OneAnswer, OneOutcome, is-unique}
+use Rattle.base.specs.OneAnswer.{OneAnswer, OneOutcome}
+use Rattle.base.proofs.Unique.{is-unique}
 use Rattle.running.specs.Run.{Left}
 use Rattle.effect.specs.declared.Ran.{Ran}
 use Rattle.effect.specs.Leaving.{RunLeaves}
@@ -14,11 +15,14 @@ use Rattle.effect.proofs as effect
 abbrev pub Buffers : Type 0
 Buffers = List ℕ × List ℕ
 
+pub same-buffers : {σ τ m n : List ℕ} → σ ≡ τ → m ≡ n → _≡_ {A = Buffers} (σ, m) (τ, n)
+same-buffers = ap₂ (λ (σ m : List ℕ). (σ, m))
+
 pub leaves-unique : {l : List ℕ} {x : Left} {r q : Ran} {σ τ m n : List ℕ} → RunLeaves l x r σ m → RunLeaves l x q τ n
     → (r ≡ q) × (_≡_ {A = Buffers} (σ, m) (τ, n))
 leaves-unique g h = (
   is-unique (g .is) (h .is),
-  ap₂ (λ (σ m : List ℕ). (σ, m)) (is-unique (g .state) (h .state)) (is-unique (g .holds) (h .holds)),
+  same-buffers (is-unique (g .state) (h .state)) (is-unique (g .holds) (h .holds)),
 )
 
 pub goes-on-unique : OneAnswer (effect.goes_on.Reads.Post tt)

@@ -1,20 +1,22 @@
 -- What the functions that run statements hand each other: where a run stands, and what it leaves in buffers and numbers. Assumes nothing.
 use mathlib.Core.Path.{_≡_}
-use mathlib.Core.List.{List}
+use mathlib.Core.List.{List, []}
 use mathlib.Core.Option.{none, some}
-use Prim.Native.Nat.{ℕ, suc, _/_}
+use Prim.Native.Nat.{ℕ, suc}
 use lib.ListN.{length}
 use Rattle.value.specs.declared.Value.{Value}
 use Rattle.table.specs.Bytes.{header}
+use Rattle.table.specs.Decode.{context, expr}
+use Rattle.table.specs.Syntax.{Block}
 use Rattle.table.specs.Records.{Framed, RecordsHold}
-use Rattle.table.proofs.Nesting.{IsBlock}
+use Rattle.table.specs.Asked.{IsBlock}
 use Rattle.typing.specs.Typing.{TypingHolds}
-use Rattle.memory.specs.Log.{entrySize, entries, holding}
+use Rattle.memory.specs.Log.{entries, holding, roomIn}
 use Rattle.evaluation.specs.Evaluation as E
 use Rattle.operation.specs.Outcome.{logIn}
 use Rattle.running.specs.declared.Ending.the-variants.{Done, Stopped}
-use Rattle.running.specs.Run.{Left, holds, fails, unsure, guard, target}
-use Rattle.running.proofs.RunKeeps.{Stands}
+use Rattle.running.specs.Run.{Left, run, holds, fails, unsure, guard, target}
+use Rattle.running.specs.Standing.{Stands}
 use Rattle.effect.specs.declared.Ran.{Ran}
 use Rattle.effect.specs.declared.guard.Tested.{Tested}
 use Rattle.effect.specs.declared.guard.Tested.the-variants.{Holds, Fails, Stops}
@@ -24,7 +26,7 @@ pub record Running (s σ l : List ℕ) (n a : ℕ) : Type 0 where
   pub framed : Framed s (header s)
   pub records : RecordsHold s
   pub typing : TypingHolds s
-  pub stands : Stands s (length l / entrySize) σ (entries l n) a
+  pub stands : Stands s (roomIn l) σ (entries l n) a
 
 -- statement i stands in a block, with so many statements behind it there
 pub record Standing (s : List ℕ) (i : ℕ) : Type 0 where
@@ -33,6 +35,10 @@ pub record Standing (s : List ℕ) (i : ℕ) : Type 0 where
 
 -- ------------------------------------------------------------------------------------------------
 -- Runs
+
+-- the run of a block with t ticks, from a state σ, a buffer l with a log of n entries and a next address a
+abbrev pub runs : (s σ l : List ℕ) (n a t : ℕ) → Block → Left
+runs s σ l n a t b = run (context s) (roomIn l) t b σ (entries l n) a
 
 -- the numbers of what a run left
 abbrev pub numbersOf : Left → Ran
@@ -58,6 +64,10 @@ jumpOf v i t n a = elim (target v) [ none ↦ stopsAt 33 i t n a | some d ↦ go
 
 -- ------------------------------------------------------------------------------------------------
 -- Guards
+
+-- the evaluation of expression e, with no binding in force
+abbrev pub evaluated : (s σ l : List ℕ) (n e : ℕ) → E.Evaluated
+evaluated s σ l n e = E.eval (context s) (roomIn l) σ (expr s e) [] (entries l n)
 
 -- a guard by its value, in a log of n entries; 32: "guard unknown"
 unfoldable pub testOf : Value → ℕ → Tested

@@ -14,13 +14,6 @@ pub struct Ran {
     pub next: u64,
 }
 
-// The stops of a run beside those of an evaluation: a guard or a jump is unknown, or a tick is needed and none is left.
-pub const GUARD_UNKNOWN: u32 = 32;
-
-pub const JUMP_UNKNOWN: u32 = 33;
-
-pub const NO_TICK: u32 = 35;
-
 // A run that may go on.
 pub fn goes_on(ticks: u32, count: usize, next: u64) -> Ran
     ensures { λ r. ⌜ r ≡ goesOn ticks count next ⌝ }

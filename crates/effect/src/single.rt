@@ -1,23 +1,21 @@
 // The statements without bodies.
 ghost use mathlib.Core.Path.{_≡_};
-ghost use Prim.Native.Nat.{suc, _/_};
-ghost use lib.ListN.{length};
+ghost use Prim.Native.Nat.{suc};
 ghost use Rattle.table.specs.Bytes as Bytes;
-ghost use Rattle.table.specs.Decode.{context, blockAt};
-ghost use Rattle.memory.specs.Log.{entrySize, entries};
-ghost use Rattle.running.specs.Run.{run};
-ghost use Rattle.effect.specs.Leaving.{Running, Standing, RunLeaves, jumpOf};
-use crate::JUMP_UNKNOWN;
+ghost use Rattle.table.specs.Decode.{blockAt};
+ghost use Rattle.effect.specs.Leaving.{Running, Standing, RunLeaves, jumpOf, runs};
 use crate::Ran;
 use crate::goes_on;
 use crate::stops_at;
+use base::codes;
 use evaluate::whole::whole;
 use operation::Evaluated;
 use table::Node;
 use table::ops;
 use value::Value;
 
-// A move. The ticks are what is left once it is begun, here and below.
+// A move: the variable gets the value. Where the evaluation stops the state is as it was. The ticks are what is left once it is begun,
+// here and below.
 fn moves(
     s: &[u8],
     state: &mut [u64],
@@ -32,7 +30,7 @@ fn moves(
     requires { ⌜ Standing (now s) i ⌝ }
     requires { ⌜ r ≡ Bytes.statement (now s) i ⌝ }
     requires { ⌜ r .op ≡ 1 ⌝ }
-    ensures { λ x. ⌜ RunLeaves (now (log .entry)) (run (context (now (s .entry))) (length (now (log .entry)) / entrySize) (suc ticks) (blockAt (now (s .entry)) i 1) (now (state .entry)) (entries (now (log .entry)) count) next) x (now (state .exit)) (now (log .exit)) ⌝ }
+    ensures { λ x. ⌜ RunLeaves (now (log .entry)) (runs (now (s .entry)) (now (state .entry)) (now (log .entry)) count next (suc ticks) (blockAt (now (s .entry)) i 1)) x (now (state .exit)) (now (log .exit)) ⌝ }
 {
     let v = whole(s, state, log, count, r.b);
     match v {
@@ -44,18 +42,18 @@ fn moves(
     }
 }
 
-// A jump, by where it goes.
+// A jump, by where it goes: to a word, and to anything else it stops.
 fn jumps_to(v: Value, i: u32, ticks: u32, count: usize, next: u64) -> Ran
     ensures { λ x. ⌜ x ≡ jumpOf v i ticks count next ⌝ }
 {
     match v {
         Value::Word(_, to) => goes_on(ticks, count, to),
-        Value::Unknown(_) => stops_at(JUMP_UNKNOWN, i, ticks, count, next),
-        Value::Memory(_, _) => stops_at(JUMP_UNKNOWN, i, ticks, count, next),
+        Value::Unknown(_) => stops_at(codes::JUMP_UNKNOWN, i, ticks, count, next),
+        Value::Memory(_, _) => stops_at(codes::JUMP_UNKNOWN, i, ticks, count, next),
     }
 }
 
-// A jump.
+// A jump: the next address is the value. Where the evaluation stops, or the value is unknown, it is as it was.
 fn jumps(
     s: &[u8],
     state: &[u64],
@@ -70,7 +68,7 @@ fn jumps(
     requires { ⌜ Standing (now s) i ⌝ }
     requires { ⌜ r ≡ Bytes.statement (now s) i ⌝ }
     requires { ⌜ r .op ≡ 2 ⌝ }
-    ensures { λ x. ⌜ RunLeaves (now (log .entry)) (run (context (now (s .entry))) (length (now (log .entry)) / entrySize) (suc ticks) (blockAt (now (s .entry)) i 1) (now (state .entry)) (entries (now (log .entry)) count) next) x (now (state .entry)) (now (log .exit)) ⌝ }
+    ensures { λ x. ⌜ RunLeaves (now (log .entry)) (runs (now (s .entry)) (now (state .entry)) (now (log .entry)) count next (suc ticks) (blockAt (now (s .entry)) i 1)) x (now (state .entry)) (now (log .exit)) ⌝ }
 {
     let v = whole(s, state, log, count, r.a);
     match v {
@@ -94,7 +92,7 @@ pub fn single(
     requires { ⌜ Standing (now s) i ⌝ }
     requires { ⌜ r ≡ Bytes.statement (now s) i ⌝ }
     requires { ⌜ (r .op ≡ 5 → ⊥) × (r .op ≡ 6 → ⊥) ⌝ }
-    ensures { λ x. ⌜ RunLeaves (now (log .entry)) (run (context (now (s .entry))) (length (now (log .entry)) / entrySize) (suc ticks) (blockAt (now (s .entry)) i 1) (now (state .entry)) (entries (now (log .entry)) count) next) x (now (state .exit)) (now (log .exit)) ⌝ }
+    ensures { λ x. ⌜ RunLeaves (now (log .entry)) (runs (now (s .entry)) (now (state .entry)) (now (log .entry)) count next (suc ticks) (blockAt (now (s .entry)) i 1)) x (now (state .exit)) (now (log .exit)) ⌝ }
 {
     let op = r.op;
     match op {

@@ -26,7 +26,8 @@ use Rattle.memory.proofs.LogLaws.{_⊑_, stay}
 use Rattle.memory.proofs.HasLaws.{has-stays}
 use Rattle.evaluation.specs.Evaluation as E
 use Rattle.evaluation.specs.Evaluation.{_and-then_, Binding, mostBindings}
-use Rattle.evaluation.proofs.EvaluationLaws.{Fits, fits-stays, fits-bound}
+use Rattle.evaluation.specs.Fitting.{Fits}
+use Rattle.evaluation.proofs.EvaluationLaws.{fits-stays, fits-bound}
 use Rattle.evaluation.proofs.Formed.{formed}
 use Rattle.running.proofs.EvaluationKeeps.{eval-keeps}
 use Rattle.bindings.specs.declared.Bindings.{Bindings}
@@ -45,7 +46,7 @@ use Rattle.operation.specs.Outcome.{Leaves, logIn}
 use Rattle.operation.proofs.OutcomeLaws as Still
 use Rattle.evaluate.specs.Ready.{Ready}
 use Rattle.evaluate.proofs.OnLaws.{three-on}
-use Rattle.evaluate.proofs.StepLaws.{Step, leaf, one, two, lets, three, step, evalBy, evalAt, eval-by}
+use Rattle.evaluate.proofs.StepLaws.{Step, leaf, one, two, lets, three, step, Below, step-below, evalBy, evalAt, eval-by}
 use Rattle.evaluate.proofs.WentLaws.{Went, went-trans, went-holds, over, leaves-value, leaves-stop, Known, known, known-stop, known-long, known-of}
 
 -- ------------------------------------------------------------------------------------------------
@@ -209,11 +210,11 @@ module _ {s σ l : List ℕ} {b : Bindings} {n : ℕ} (ready : Ready s σ l b n)
 
   -- a stop of the first operand
   stops-first : {m : List ℕ} {e : Evaluated} {code k : ℕ} {y : E.Evaluated} (i : ℕ) → i < header s .expressions → Call s σ l b n i e m → e ≡ Stopped code k
-      → (f : Value → Log → E.Evaluated) → y ≡ (evaluated s σ l (bindingsOf b) (entries l n) i and-then f) → Leaves l y (Stopped code k) m
-  stops-first i inside left p f q =
+      → (f : Value → Log → E.Evaluated) → y ≡ (evaluated s σ l (bindingsOf b) (entries l n) i and-then f) → Leaves l y e m
+  stops-first {m} {y = y} i inside left p f q =
       let (t, k) = known-call i inside left in
       let z = ended k p in
-      leaves-stop (z .went) (then-stop f q (z .is))
+      subst (λ (e : Evaluated). Leaves l y e m) (sym p) (leaves-stop (z .went) (then-stop f q (z .is)))
 
 -- ------------------------------------------------------------------------------------------------
 -- The ways
@@ -232,6 +233,9 @@ module _ {s σ l : List ℕ} {b : Bindings} {n i : ℕ} {r : Node} (here : At s 
   met e =
       let (t, d) = ready .typing .expressions i (here .inside) in
       subst (Step s i r) e (subst (λ (r : Node). Step s i r (stepsOf r)) (sym (here .is)) (step (expr-view (ready .records) i (here .inside)) d))
+
+  pub below : {o : Steps} → stepsOf r ≡ o → Below i o
+  below e = step-below (met e)
 
   abbrev whole : E.Evaluated
   whole = evaluated s σ l (bindingsOf b) (entries l n) i
@@ -255,12 +259,6 @@ module _ {s σ l : List ℕ} {b : Bindings} {n i : ℕ} {r : Node} (here : At s 
 
   -- one
   module _ {a : ℕ} (e : stepsOf r ≡ By.One a) where
-    pub one-below : a < i
-    one-below = go (met e)
-      where
-        go : Step s i r (By.One a) → a < i
-        go (one h d f) = h
-
     module _ {x : Evaluated} {m : List ℕ} (first : Call s σ l b n a x m) where
       pub one-asks : AfterOne r x
       one-asks = go (met e)
@@ -277,16 +275,10 @@ module _ {s σ l : List ℕ} {b : Bindings} {n i : ℕ} {r : Node} (here : At s 
 
   -- two
   module _ {a c : ℕ} (e : stepsOf r ≡ By.Two a c) where
-    pub two-below : (a < i) × (c < i)
-    two-below = go (met e)
-      where
-        go : Step s i r (By.Two a c) → (a < i) × (c < i)
-        go (two h g d f k) = (h, g)
-
     module _ {x : Evaluated} {m : List ℕ} (first : Call s σ l b n a x m) where
-      pub two-stops : {code k : ℕ} → x ≡ Stopped code k → Leaves l whole (Stopped code k) m
+      pub two-stops : {code k : ℕ} → x ≡ Stopped code k → Leaves l whole x m
       unfolding evalBy
-      two-stops q = let h = two-below .0 in stops-first ready a (omega arith) first q _ (by e)
+      two-stops q = let h = below e .0 in stops-first ready a (omega arith) first q _ (by e)
 
       module _ {v : Value} {k : ℕ} (q : x ≡ Of v k) {y : Evaluated} {p : List ℕ} (second : Call s σ m b k c y p) where
         pub two-asks : AfterTwo p r v y
@@ -300,8 +292,8 @@ module _ {s σ l : List ℕ} {b : Bindings} {n i : ℕ} {r : Node} (here : At s 
         pub two-leaves : Leaves l whole (twoAfter p r v y) p
         unfolding evalBy
         two-leaves =
-            let h = two-below .0 in
-            let g = two-below .1 in
+            let h = below e .0 in
+            let g = below e .1 in
             let w = went-on ready a (omega arith) first q in
             let (u, k₂) = known-call (stays ready w) c (omega arith) second in
             end-two r v w k₂
@@ -311,16 +303,10 @@ module _ {s σ l : List ℕ} {b : Bindings} {n i : ℕ} {r : Node} (here : At s 
 
   -- a let
   module _ {a c : ℕ} (e : stepsOf r ≡ By.Let a c) where
-    pub let-below : (a < i) × (c < i)
-    let-below = go (met e)
-      where
-        go : Step s i r (By.Let a c) → (a < i) × (c < i)
-        go (lets h g x d f) = (h, g)
-
     module _ {x : Evaluated} {m : List ℕ} (first : Call s σ l b n a x m) where
-      pub let-stops : {code k : ℕ} → x ≡ Stopped code k → Leaves l whole (Stopped code k) m
+      pub let-stops : {code k : ℕ} → x ≡ Stopped code k → Leaves l whole x m
       unfolding evalBy
-      let-stops q = let h = let-below .0 in stops-first ready a (omega arith) first q _ (by e)
+      let-stops q = let h = below e .0 in stops-first ready a (omega arith) first q _ (by e)
 
       module _ {v : Value} {k : ℕ} (q : x ≡ Of v k) where
         bound : (r .a < header s .variables) × Has (entries m k) v (context s .type (r .a))
@@ -342,7 +328,7 @@ module _ {s σ l : List ℕ} {b : Bindings} {n i : ℕ} {r : Node} (here : At s 
         ]
         unfolding evalBy
         after-bound =
-            let h = let-below .0 in
+            let h = below e .0 in
             then-value (λ v L. elim (ltb (length (bindingsOf b)) mostBindings) [
               | true ↦ evalAt s (length l / entrySize) σ c (record { variable = r .a; bound = v } ∷ bindingsOf b) L
               | false ↦ E.stopped 36 L
@@ -350,14 +336,14 @@ module _ {s σ l : List ℕ} {b : Bindings} {n i : ℕ} {r : Node} (here : At s 
 
         pub let-full : mostBindings ≤ b .count → Leaves l whole (Stopped 36 k) m
         let-full full =
-            let h = let-below .0 in
+            let h = below e .0 in
             let n = length-bindings b in
             let none : ltb (length (bindingsOf b)) mostBindings ≡ false = le-ltb (length (bindingsOf b)) mostBindings (omega arith) in
             leaves-stop (went-on ready a (omega arith) first q) (rw none at after-bound)
 
         module _ (few : b .count < mostBindings) where
           inner : Ready s σ m (more b (r .a) v) k
-          inner = let h = let-below .0 in under (next ready a (omega arith) first q) (r .a) v few (bound .1)
+          inner = let h = below e .0 in under (next ready a (omega arith) first q) (r .a) v few (bound .1)
 
           pub let-ready : {d : Bindings} → d ≡ more b (r .a) v → Ready s σ m d k
           let-ready p = subst (λ (d : Bindings). Ready s σ m d k) (sym p) inner
@@ -365,8 +351,8 @@ module _ {s σ l : List ℕ} {b : Bindings} {n i : ℕ} {r : Node} (here : At s 
           pub let-leaves : {d : Bindings} {y : Evaluated} {p : List ℕ} → d ≡ more b (r .a) v → Call s σ m d k c y p → Leaves l whole y p
           let-leaves {d} {y} {p} is-more given =
               let second : Call s σ m (more b (r .a) v) k c y p = subst (λ (d : Bindings). Call s σ m d k c y p) is-more given in
-              let h = let-below .0 in
-              let g = let-below .1 in
+              let h = below e .0 in
+              let g = below e .1 in
               let w = went-on ready a (omega arith) first q in
               let n = length-bindings b in
               let room : ltb (length (bindingsOf b)) mostBindings ≡ true = lt-ltb (length (bindingsOf b)) mostBindings (omega arith) in
@@ -378,12 +364,6 @@ module _ {s σ l : List ℕ} {b : Bindings} {n i : ℕ} {r : Node} (here : At s 
 
   -- three
   module _ {a c d : ℕ} (e : stepsOf r ≡ By.Three a c d) where
-    pub three-below : (a < i) × (c < i) × (d < i)
-    three-below = go (met e)
-      where
-        go : Step s i r (By.Three a c d) → (a < i) × (c < i) × (d < i)
-        go (three h g o p q u f) = (h, g, o)
-
     -- what comes after the first, and after the second
     abbrev last : Value → Value → Value → Log → E.Evaluated
     last v w z L = threeValue (length l / entrySize) L r v w z
@@ -392,31 +372,31 @@ module _ {s σ l : List ℕ} {b : Bindings} {n i : ℕ} {r : Node} (here : At s 
     rest v w L = evalAt s (length l / entrySize) σ d (bindingsOf b) L and-then last v w
 
     module _ {x : Evaluated} {m : List ℕ} (first : Call s σ l b n a x m) where
-      pub three-stops : {code k : ℕ} → x ≡ Stopped code k → Leaves l whole (Stopped code k) m
+      pub three-stops : {code k : ℕ} → x ≡ Stopped code k → Leaves l whole x m
       unfolding evalBy
-      three-stops q = let h = three-below .0 in stops-first ready a (omega arith) first q _ (by e)
+      three-stops q = let h = below e .0 in stops-first ready a (omega arith) first q _ (by e)
 
       module _ {v : Value} {k : ℕ} (q : x ≡ Of v k) {y : Evaluated} {p : List ℕ} (second : Call s σ m b k c y p) where
         went-one : Went l n m k
-        went-one = let h = three-below .0 in went-on ready a (omega arith) first q
+        went-one = let h = below e .0 in went-on ready a (omega arith) first q
 
         after-one : whole ≡ (evaluated s σ m (bindingsOf b) (entries m k) c and-then rest v)
         unfolding evalBy
         after-one =
-            let h = three-below .0 in
+            let h = below e .0 in
             then-value (λ v L. evalAt s (length l / entrySize) σ c (bindingsOf b) L and-then rest v) (by e) (gave ready a (omega arith) first q)
             ∙ ap (λ (o : ℕ). evalAt s (o / entrySize) σ c (bindingsOf b) (entries m k) and-then rest v) (sym (went-one .same))
 
-        pub three-stops-second : {code j : ℕ} → y ≡ Stopped code j → Leaves l whole (Stopped code j) p
+        pub three-stops-second : {code j : ℕ} → y ≡ Stopped code j → Leaves l whole y p
         three-stops-second u =
-            let g = three-below .1 in
+            let g = below e .1 in
             let (t, k₂) = known-call (stays ready went-one) c (omega arith) second in
             let z = ended k₂ u in
-            leaves-stop (went-trans went-one (z .went)) (then-stop (rest v) after-one (z .is))
+            subst (λ (y : Evaluated). Leaves l whole y p) (sym u) (leaves-stop (went-trans went-one (z .went)) (then-stop (rest v) after-one (z .is)))
 
         module _ {w : Value} {j : ℕ} (u : y ≡ Of w j) where
           went-two : Went m k p j
-          went-two = let g = three-below .1 in went-on (stays ready went-one) c (omega arith) second u
+          went-two = let g = below e .1 in went-on (stays ready went-one) c (omega arith) second u
 
           pub three-ready : Ready s σ p b j
           three-ready = stays (stays ready went-one) went-two
@@ -433,8 +413,8 @@ module _ {s σ l : List ℕ} {b : Bindings} {n i : ℕ} {r : Node} (here : At s 
 
             pub three-leaves : {f : Evaluated} {z₁ : List ℕ} → Leaves o (threeAfter o r v w z) f z₁ → Leaves l whole f z₁
             three-leaves left =
-                let g = three-below .1 in
-                let h = three-below .2 in
+                let g = below e .1 in
+                let h = below e .2 in
                 let both = went-trans went-one went-two in
                 let (t, k₃) = known-call three-ready d (omega arith) third in
                 end-three r v w both k₃

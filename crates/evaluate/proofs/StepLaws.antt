@@ -40,6 +40,21 @@ pub data Step (s : List ℕ) (i : ℕ) (r : Node) : Steps → Type 0 where
       {a b c : ℕ} {t u v : ValueType} → a < i → b < i → c < i → context s ⊢ expr s a ∶ t → context s ⊢ expr s b ∶ u → context s ⊢ expr s c ∶ v
       → ((L : Log) (x y z : Value) → Has L x t → Has L y u → Has L z v → ThreeFits L r x y z) → Step s i r (By.Three a b c)
 
+-- its operands are earlier expressions
+abbrev pub Below : ℕ → Steps → Type 0
+Below i By.Leaf = Unit {0}
+Below i (By.One a) = a < i
+Below i (By.Two a b) = (a < i) × (b < i)
+Below i (By.Let a b) = (a < i) × (b < i)
+Below i (By.Three a b c) = (a < i) × (b < i) × (c < i)
+
+pub step-below : {s : List ℕ} {i : ℕ} {r : Node} {o : Steps} → Step s i r o → Below i o
+step-below (leaf h) = tt
+step-below (one h d f) = h
+step-below (two h g d e f) = (h, g)
+step-below (lets h g x d f) = (h, g)
+step-below (three h g k d e u f) = (h, g, k)
+
 -- ------------------------------------------------------------------------------------------------
 -- Each expression by its op
 

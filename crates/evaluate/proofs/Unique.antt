@@ -1,7 +1,8 @@
 -- No second answer fits: the contract leaves one result, and one content of the log. Assumes nothing.
 use contract.Lifetimes.{Lfts}
 use denote.Ref.{now}
-use Rattle.base.proofs.Unique.{OneOutcome, is-unique}
+use Rattle.base.specs.OneAnswer.{OneOutcome}
+use Rattle.base.proofs.Unique.{is-unique}
 use Rattle.evaluate.proofs as evaluate
 
 -- the result, and what the log's buffer holds at exit

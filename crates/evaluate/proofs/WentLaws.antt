@@ -9,7 +9,8 @@ use Rattle.value.specs.declared.Value.{Value}
 use Rattle.memory.specs.Log.{Log, entrySize, entries, holding}
 use Rattle.memory.specs.Typed.{Has}
 use Rattle.memory.proofs.LogLaws.{_⊑_, ⊑-trans, ⊑-length, length-entries, entries-holding, length-holding}
-use Rattle.memory.proofs.LogRules.{InRoom, entries-rules}
+use Rattle.memory.specs.Room.{InRoom}
+use Rattle.memory.proofs.LogRules.{entries-rules}
 use Rattle.evaluation.specs.Evaluation as E
 use Rattle.evaluation.proofs.EvaluationLaws.{Gives, gives, stops}
 use Rattle.logs.specs.Held.{Holds}

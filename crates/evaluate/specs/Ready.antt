@@ -8,7 +8,7 @@ use Rattle.table.specs.Records.{Framed, RecordsHold}
 use Rattle.table.specs.Decode.{context}
 use Rattle.typing.specs.Typing.{TypingHolds}
 use Rattle.memory.specs.Log.{entrySize, entries}
-use Rattle.evaluation.proofs.EvaluationLaws.{Fits}
+use Rattle.evaluation.specs.Fitting.{Fits}
 use Rattle.bindings.specs.declared.Bindings.{Bindings}
 use Rattle.bindings.specs.Bound.{Whole, bindingsOf}
 

@@ -1,6 +1,6 @@
 // The value of an expression by recursion on its operands, whose numbers are lower, in paper 01's order. It goes no deeper than the
 // table does: 64 expressions. Each call that goes down is handed the bindings by value, 712 bytes; so an
-// operand that has no operands itself is evaluated at once, without a call.
+// operand that has no operands itself is evaluated at once, without a call. Where an operand stops, that is the expression's own outcome.
 ghost use Prim.Native.Nat.{_/_, _<_};
 ghost use lib.ListN.{length};
 ghost use Rattle.table.specs.Bytes as Bytes;
@@ -10,9 +10,9 @@ ghost use Rattle.evaluation.specs.Evaluation as Evaluation;
 ghost use Rattle.bindings.specs.Bound.{bindingsOf};
 ghost use Rattle.operation.specs.Outcome.{Leaves};
 ghost use Rattle.evaluate.specs.Ready.{Ready};
+use base::codes;
 use bindings::Bindings;
 use operation::Evaluated;
-use operation::TOO_MANY_BINDINGS;
 use operation::after;
 use operation::leaf::AtOnce;
 use operation::leaf::at_once;
@@ -53,17 +53,13 @@ pub fn eval(
                 AtOnce::Is(v) => Evaluated::Of(v, count),
                 AtOnce::Deeper => eval(s, state, log, bindings, count, a),
             };
-            match e {
-                Evaluated::Of(x, n) => {
-                    let q = at_once(s, h, state, bindings, b);
-                    let f = match q {
-                        AtOnce::Is(v) => Evaluated::Of(v, n),
-                        AtOnce::Deeper => eval(s, state, log, bindings, n, b),
-                    };
-                    after::two(log, r, x, f)
-                }
-                Evaluated::Stopped(code, n) => Evaluated::Stopped(code, n),
-            }
+            let Evaluated::Of(x, n) = e else { return e };
+            let q = at_once(s, h, state, bindings, b);
+            let f = match q {
+                AtOnce::Is(v) => Evaluated::Of(v, n),
+                AtOnce::Deeper => eval(s, state, log, bindings, n, b),
+            };
+            after::two(log, r, x, f)
         }
         Steps::Let(a, b) => {
             let p = at_once(s, h, state, bindings, a);
@@ -71,15 +67,11 @@ pub fn eval(
                 AtOnce::Is(v) => Evaluated::Of(v, count),
                 AtOnce::Deeper => eval(s, state, log, bindings, count, a),
             };
-            match e {
-                Evaluated::Of(x, n) => {
-                    if 64 <= bindings.count {
-                        return Evaluated::Stopped(TOO_MANY_BINDINGS, n);
-                    }
-                    eval(s, state, log, bindings.with(r.a, x), n, b)
-                }
-                Evaluated::Stopped(code, n) => Evaluated::Stopped(code, n),
+            let Evaluated::Of(x, n) = e else { return e };
+            if 64 <= bindings.count {
+                return Evaluated::Stopped(codes::TOO_MANY_BINDINGS, n);
             }
+            eval(s, state, log, bindings.with(r.a, x), n, b)
         }
         Steps::Three(a, b, c) => {
             let p = at_once(s, h, state, bindings, a);
@@ -87,27 +79,19 @@ pub fn eval(
                 AtOnce::Is(v) => Evaluated::Of(v, count),
                 AtOnce::Deeper => eval(s, state, log, bindings, count, a),
             };
-            match e {
-                Evaluated::Of(x, n) => {
-                    let q = at_once(s, h, state, bindings, b);
-                    let f = match q {
-                        AtOnce::Is(v) => Evaluated::Of(v, n),
-                        AtOnce::Deeper => eval(s, state, log, bindings, n, b),
-                    };
-                    match f {
-                        Evaluated::Of(y, m) => {
-                            let u = at_once(s, h, state, bindings, c);
-                            let g = match u {
-                                AtOnce::Is(v) => Evaluated::Of(v, m),
-                                AtOnce::Deeper => eval(s, state, log, bindings, m, c),
-                            };
-                            after::three(log, r, x, y, g)
-                        }
-                        Evaluated::Stopped(code, m) => Evaluated::Stopped(code, m),
-                    }
-                }
-                Evaluated::Stopped(code, n) => Evaluated::Stopped(code, n),
-            }
+            let Evaluated::Of(x, n) = e else { return e };
+            let q = at_once(s, h, state, bindings, b);
+            let f = match q {
+                AtOnce::Is(v) => Evaluated::Of(v, n),
+                AtOnce::Deeper => eval(s, state, log, bindings, n, b),
+            };
+            let Evaluated::Of(y, m) = f else { return f };
+            let u = at_once(s, h, state, bindings, c);
+            let g = match u {
+                AtOnce::Is(v) => Evaluated::Of(v, m),
+                AtOnce::Deeper => eval(s, state, log, bindings, m, c),
+            };
+            after::three(log, r, x, y, g)
         }
     }
 }

@@ -1,8 +1,8 @@
 -- States and bindings whose values have their variables' types, and results of a type that compose. Assumes nothing.
 use mathlib.Core.Path.{_≡_, refl, subst}
 use mathlib.Core.Bool.{Bool, true, false}
-use mathlib.Core.List.{List, [], _∷_}
-use Prim.Native.Nat.{ℕ, _<_}
+use mathlib.Core.List.{List, _∷_}
+use Prim.Native.Nat.{ℕ}
 use lib.Dec.{eqb}
 use borrow.Author.Tests.{eqb-true}
 use Rattle.value.specs.declared.ValueType.{ValueType}
@@ -10,26 +10,16 @@ use Rattle.value.specs.declared.Value.{Value}
 use Rattle.table.specs.Decode.{Context}
 use Rattle.memory.specs.Log.{Log}
 use Rattle.memory.proofs.LogLaws.{_⊑_, ⊑-trans}
-use Rattle.memory.proofs.LogRules.{InRoom}
+use Rattle.memory.specs.Room.{InRoom}
 use Rattle.memory.specs.Typed.{Has}
 use Rattle.memory.proofs.HasLaws.{has-stays}
 use Rattle.memory.specs.Access.{Stored}
 use Rattle.memory.proofs.AccessKeeps.{Stores, stores, fills}
-use Rattle.evaluation.specs.State.{inState}
+use Rattle.evaluation.specs.Fitting.{Bound, outside, inside, Fits}
 use Rattle.evaluation.specs.Evaluation.{Evaluated, value, stopped, _and-then_, afterStore, Binding, look}
 
 -- ------------------------------------------------------------------------------------------------
 -- States and bindings
-
-pub data Bound (Γ : Context) (L : Log) : List Binding → Type 0 where
-  outside : Bound Γ L []
-  inside : {b : Binding} {ρ : List Binding} → Has L (b .bound) (Γ .type (b .variable)) → Bound Γ L ρ → Bound Γ L (b ∷ ρ)
-
--- the log is in its room, and the first n variables and all bindings have their types
-pub record Fits (Γ : Context) (n room : ℕ) (σ : List ℕ) (ρ : List Binding) (L : Log) : Type 0 where
-  pub log : InRoom room L
-  pub state : (x : ℕ) → x < n → Has L (inState σ (Γ .type x) x) (Γ .type x)
-  pub bindings : Bound Γ L ρ
 
 bound-stays : {Γ : Context} {L M : Log} {ρ : List Binding} → L ⊑ M → Bound Γ L ρ → Bound Γ M ρ
 bound-stays p outside = outside

@@ -11,7 +11,8 @@ use Rattle.table.specs.Bytes.{header, variable}
 use Rattle.table.specs.Decode.{expr}
 use Rattle.table.specs.Syntax as S
 use Rattle.table.specs.Syntax.{Expr, Block, _then_}
-use Rattle.table.proofs.View.{SizeOk, View, v-var, v-word, v-load, v-store, v-binary, v-unary, v-cast, v-let, v-unknown, v-ite, v-extract, v-concat}
+use Rattle.table.specs.Asked.{SizeOk}
+use Rattle.table.proofs.View.{View, v-var, v-word, v-load, v-store, v-binary, v-unary, v-cast, v-let, v-unknown, v-ite, v-extract, v-concat}
 use Rattle.table.proofs.View.{Reads, r-end, r-move, r-jmp, r-cpuexn, r-special, r-while, r-if}
 
 -- ------------------------------------------------------------------------------------------------

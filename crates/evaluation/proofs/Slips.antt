@@ -8,7 +8,7 @@ use Rattle.value.specs.declared.Value.the-variants.{Memory}
 use Rattle.table.specs.Decode.{Context}
 use Rattle.table.specs.Syntax as S
 use Rattle.table.specs.Syntax.{Expr}
-use Rattle.memory.specs.Log.{Entry}
+use Rattle.memory.specs.declared.Entry.{Entry}
 use Rattle.evaluation.specs.Evaluation.{value, eval}
 
 -- a byte stored at an address of an unknown memory, and the entry that it appends

@@ -1,5 +1,6 @@
--- The evaluation of expressions, in paper 01's order. The names in capitals are rules of 002; `completed` and `narrowed` mark where
--- paper 01 completes or narrows them. Assumes nothing.
+-- The evaluation of expressions, in paper 01's order. The names in capitals are rules of 002. Its public copy has lost some of these names (those of
+-- let, of the unary operations and of concat's steps): they are named as their neighbours are (docs/READING.md, 'From 002 to the definitions').
+-- `completed` and `narrowed` mark where paper 01 completes or narrows them. Assumes nothing.
 use mathlib.Core.Bool.{true, false}
 use mathlib.Core.List.{List, [], _∷_}
 use Prim.Native.Nat.{ℕ}
@@ -22,6 +23,7 @@ pub data Evaluated : Type 0 where
   stopped : ℕ → Log → Evaluated
 
 infixl 15 _and-then_
+-- "a stop where the run first meets it": what comes after a stop is not evaluated
 unfoldable pub _and-then_ : Evaluated → (Value → Log → Evaluated) → Evaluated
 value v L and-then f = f v L
 stopped code L and-then f = stopped code L

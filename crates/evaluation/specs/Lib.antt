@@ -1,2 +1,3 @@
 pub mod Evaluation
+pub mod Fitting
 pub mod State

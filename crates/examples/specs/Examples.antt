@@ -8,7 +8,8 @@ use Rattle.value.specs.declared.ValueType.the-variants.{Imm, Mem}
 use Rattle.value.specs.declared.Value.{Value}
 use Rattle.value.specs.declared.Value.the-variants.{Word, Unknown}
 use Rattle.value.specs.Values as Values
-use Rattle.memory.specs.Log.{Log, Entry}
+use Rattle.memory.specs.declared.Entry.{Entry}
+use Rattle.memory.specs.Log.{Log}
 use Rattle.memory.specs.Access as Access
 use Rattle.memory.specs.Access.{Stored, stored, full}
 

@@ -4,7 +4,7 @@ use mathlib.Core.Bool.{Bool, _||_}
 use mathlib.Core.List.{List}
 use Prim.Native.Nat.{ℕ, suc, _+_, _-_, _/_, _<_}
 use native.Mathlib.Omega.{arith}
-use lib.ListN.{length}
+use lib.Dec.{eqb}
 use borrow.Author.Tests.{ne-eqb}
 use Rattle.base.specs.Choice.{if_then_else_}
 use Rattle.table.specs.declared.Node.{Node}
@@ -14,26 +14,27 @@ use Rattle.table.specs.Syntax as S
 use Rattle.table.specs.Syntax.{Block, _then_}
 use Rattle.table.specs.Records.{RecordsHold}
 use Rattle.table.proofs.BlockLaws.{block-none, block-while, block-if}
-use Rattle.table.proofs.Nesting.{IsBlock, parts-by-op}
-use Rattle.memory.specs.Log.{entrySize, entries}
-use Rattle.running.specs.declared.Ending.the-variants.{Done, Refused, Stopped}
+use Rattle.table.specs.Asked.{IsBlock}
+use Rattle.table.proofs.Nesting.{parts-by-op}
+use Rattle.memory.specs.Log.{entrySize, entries, roomIn}
+use Rattle.running.specs.declared.Ending.the-variants.{Done, Stopped}
 use Rattle.running.specs.Run.{Left, left, stop, run}
-use Rattle.running.proofs.RunKeeps.{Stands}
+use Rattle.running.specs.Standing.{Stands}
 use Rattle.running.proofs.PairLaws.{state-stays}
 use Rattle.evaluate.proofs.WentLaws.{Went, went-trans}
 use Rattle.effect.specs.declared.Ran.{Ran}
 use Rattle.effect.specs.declared.guard.Tested.{Tested}
 use Rattle.effect.specs.declared.guard.Tested.the-variants.{Holds, Fails, Stops}
-use Rattle.effect.specs.Leaving.{Running, Standing, RunLeaves, TestLeaves, goesOn, stopsAt}
+use Rattle.effect.specs.Leaving.{Running, Standing, RunLeaves, TestLeaves, goesOn, stopsAt, runs, evaluated}
 use Rattle.effect.proofs.StandingLaws.{Good, block-good, inside, read-field}
 use Rattle.effect.proofs.LeavingLaws.{leaves-left}
 use Rattle.effect.proofs.AloneLaws.{run-end}
 use Rattle.execute.specs.Extent.{bodiesOf}
 use Rattle.execute.proofs.ThenLaws.{then-end}
 use Rattle.execute.proofs.SplitLaws.{no-tick}
-use Rattle.execute.proofs.EndedLaws.{ended, runs, Came, comes-to-end}
-use Rattle.execute.proofs.LoopLaws.{done-then, stopped-then, refused-then}
-use Rattle.execute.proofs.TestLaws.{guarded, evaluated, test-holds, test-fails, test-stops}
+use Rattle.execute.proofs.EndedLaws.{Halts, ended, Came, comes-to-end}
+use Rattle.execute.proofs.LoopLaws.{done-then, halted-then}
+use Rattle.execute.proofs.TestLaws.{guarded, test-holds, test-fails, test-stops}
 
 -- ------------------------------------------------------------------------------------------------
 -- A guard that was tested
@@ -52,15 +53,15 @@ pub came-ends : {s l₀ σ l : List ℕ} {n₀ t₀ n a t : ℕ} {whole : Left} 
     → RunLeaves l₀ whole y σ l
 came-ends {s} {l₀} {σ} {l} {n = n} {a = a} {t = t} {whole = whole} c same =
     subst (λ (y : Ran). RunLeaves l₀ whole y σ l) (sym same)
-    (leaves-left Done (c .went) (c .same ∙ run-end (context s) (length l / entrySize) t σ (entries l n) a))
+    (leaves-left Done (c .went) (c .same ∙ run-end (context s) (roomIn l) t σ (entries l n) a))
 
 module _ {s l₀ σ l : List ℕ} {n₀ t₀ n a : ℕ} {whole : Left} {b : Block} (t i : ℕ) (c : Came s l₀ n₀ t₀ whole b σ l n a (suc t)) (e : ℕ)
     (inside : e < header s .expressions) (x y : Block)
     (form : runs s σ l n a (suc t) b
-    ≡ guarded i t a σ (λ M. run (context s) (length l / entrySize) t x σ M a) (λ M. run (context s) (length l / entrySize) t y σ M a)
+    ≡ guarded i t a σ (λ M. run (context s) (roomIn l) t x σ M a) (λ M. run (context s) (roomIn l) t y σ M a)
     (evaluated s σ l n e))
     {m : List ℕ} {r : Tested} (leaves : TestLeaves l (evaluated s σ l n e) r m) where
-  came-on : {k : ℕ} (d : Block) → Went l n m k → whole ≡ run (context s) (length l / entrySize) t d σ (entries m k) a → Came s l₀ n₀ t₀ whole d σ m k a t
+  came-on : {k : ℕ} (d : Block) → Went l n m k → whole ≡ run (context s) (roomIn l) t d σ (entries m k) a → Came s l₀ n₀ t₀ whole d σ m k a t
   came-on {k} d w p =
       let less = c .fewer in
       record {
@@ -73,20 +74,20 @@ module _ {s l₀ σ l : List ℕ} {n₀ t₀ n a : ℕ} {whole : Left} {b : Bloc
   pub holds-came : {k : ℕ} → r ≡ Holds k → Came s l₀ n₀ t₀ whole x σ m k a t
   holds-came q =
       let (w, p) = test-holds (c .running) e inside leaves i t
-      (λ M. run (context s) (length l / entrySize) t x σ M a) (λ M. run (context s) (length l / entrySize) t y σ M a) q in
+      (λ M. run (context s) (roomIn l) t x σ M a) (λ M. run (context s) (roomIn l) t y σ M a) q in
       came-on x w (c .same ∙ form ∙ p)
 
   pub fails-came : {k : ℕ} → r ≡ Fails k → Came s l₀ n₀ t₀ whole y σ m k a t
   fails-came q =
       let (w, p) = test-fails (c .running) e inside leaves i t
-      (λ M. run (context s) (length l / entrySize) t x σ M a) (λ M. run (context s) (length l / entrySize) t y σ M a) q in
+      (λ M. run (context s) (roomIn l) t x σ M a) (λ M. run (context s) (roomIn l) t y σ M a) q in
       came-on y w (c .same ∙ form ∙ p)
 
   pub stops-leaves : {code k : ℕ} {z : Ran} → r ≡ Stops code k → z ≡ stopsAt code i t k a → RunLeaves l₀ whole z σ m
   unfolding stop
   stops-leaves {code} q same =
       let (w, p) = test-stops (c .running) e inside leaves i t
-      (λ M. run (context s) (length l / entrySize) t x σ M a) (λ M. run (context s) (length l / entrySize) t y σ M a) q in
+      (λ M. run (context s) (roomIn l) t x σ M a) (λ M. run (context s) (roomIn l) t y σ M a) q in
       subst (λ (z : Ran). RunLeaves l₀ whole z σ m) (sym same) (leaves-left (Stopped code i) (went-trans (c .went) w) (c .same ∙ form ∙ p))
 
 -- ------------------------------------------------------------------------------------------------
@@ -101,7 +102,7 @@ came-without {s} {l₀} {σ} {l} {n = n} {a = a} {t = t} {i = i} {whole = whole}
     (leaves-left (Stopped 35 i) (c .went)
     (c .same
     ∙ ap (λ (t : ℕ). runs s σ l n a t (blockAt s i (suc m))) none
-    ∙ no-tick (c .running .records) (at .block) (length l / entrySize) σ (entries l n) a m
+    ∙ no-tick (c .running .records) (at .block) (roomIn l) σ (entries l n) a m
     ∙ ap (λ (t : ℕ). left (Stopped 35 i) t σ (entries l n) a) (sym none)))
 
 module _ (s : List ℕ) (i : ℕ) {r : Node} (is : r ≡ statement s i) (op : r .op ≡ 5) (inside : i < header s .statements) where
@@ -136,132 +137,147 @@ module _ (s : List ℕ) (i : ℕ) {r : Node} (is : r ≡ statement s i) (op : r 
       (ap (blockAt s (suc i + (r .b + r .c))) none ∙ block-none s (suc i + (r .b + r .c)))
 
 -- ------------------------------------------------------------------------------------------------
--- The turns of a while
+-- A while or an if that is begun
 
-module _ {s l₀ : List ℕ} {i n₀ t₀ : ℕ} {whole : Left} {r : Node} (at : Standing s i) (is : r ≡ statement s i) (op : r .op ≡ 5) {σ l : List ℕ} {n a t : ℕ}
-    (c : Came s l₀ n₀ t₀ whole (blockAt s i (suc (bodiesOf r))) σ l n a t) where
+module _ {s : List ℕ} {i : ℕ} {r : Node} (records : RecordsHold s) (at : Standing s i) (is : r ≡ statement s i) {k : ℕ} (op : r .op ≡ k) where
+  read-op : statement s i .op ≡ k
+  read-op = sym (ap (λ (q : Node). q .op) is) ∙ op
+
+  pub guard-inside : 4 < k → r .a < header s .expressions
+  guard-inside high =
+      let o = read-op in
+      subst (λ (q : Node). q .a < header s .expressions) (sym is) (read-field records at (omega arith) (omega arith) (omega arith))
+
+  first-body : IsBlock s (i + 1) (if eqb k 5 || eqb k 6 then r .b else 0)
+  first-body =
+      let next : suc i ≡ i + 1 = omega arith in
+      subst (λ (at : ℕ). IsBlock s at (if eqb k 5 || eqb k 6 then r .b else 0)) next
+      (subst (λ (q : Node). IsBlock s (suc i) (if eqb k 5 || eqb k 6 then q .b else 0)) (sym is) (parts-by-op records (at .block) k read-op .firstBody))
+
+-- statement i, of an op, is begun: a run has come to it and has a tick for it, and its guard was tested
+pub record Begun (op : ℕ) (s l₀ : List ℕ) (n₀ t₀ : ℕ) (whole : Left) (i : ℕ) (r : Node) (σ l : List ℕ) (n a t : ℕ) (g : Tested) (m : List ℕ) : Type 0 where
+  pub at : Standing s i
+  pub is : r ≡ statement s i
+  pub by : r .op ≡ op
+  pub came : Came s l₀ n₀ t₀ whole (blockAt s i (suc (bodiesOf r))) σ l n a t
+  pub some : 0 < t
+  pub tested : TestLeaves l (evaluated s σ l n (r .a)) g m
+
+module _ {op : ℕ} {s l₀ : List ℕ} {n₀ t₀ : ℕ} {whole : Left} {i : ℕ} {r : Node} {σ l : List ℕ} {n a t : ℕ} {g : Tested} {m : List ℕ}
+    (h : Begun op s l₀ n₀ t₀ whole i r σ l n a t g m) where
   abbrev table : RecordsHold s
-  table = c .running .records
+  table = h .came .running .records
 
   here : i < header s .statements
-  here = inside table at
+  here = inside table (h .at)
 
-  pub while-asks : r .a < header s .expressions
-  while-asks =
-      let o : statement s i .op ≡ 5 = sym (ap (λ (q : Node). q .op) is) ∙ op in
-      subst (λ (q : Node). q .a < header s .expressions) (sym is) (read-field table at (omega arith) (omega arith) (omega arith))
+  with-tick : Came s l₀ n₀ t₀ whole (blockAt s i (suc (bodiesOf r))) σ l n a (suc (t - 1))
+  with-tick =
+      let some = h .some in
+      let e : t ≡ suc (t - 1) = omega arith in
+      subst (Came s l₀ n₀ t₀ whole (blockAt s i (suc (bodiesOf r))) σ l n a) e (h .came)
+
+-- ------------------------------------------------------------------------------------------------
+-- The turns of a while
+
+module _ {s l₀ : List ℕ} {n₀ t₀ : ℕ} {whole : Left} {i : ℕ} {r : Node} {σ l : List ℕ} {n a t : ℕ} {g : Tested} {m : List ℕ}
+    (h : Begun 5 s l₀ n₀ t₀ whole i r σ l n a t g m) where
+  guard : r .a < header s .expressions
+  guard = guard-inside (table h) (h .at) (h .is) (h .by) (omega arith)
 
   -- the body
   pub while-body : IsBlock s (i + 1) (r .b)
-  while-body =
-      let o : statement s i .op ≡ 5 = sym (ap (λ (q : Node). q .op) is) ∙ op in
-      let next : suc i ≡ i + 1 = omega arith in
-      subst (λ (at : ℕ). IsBlock s at (r .b)) next
-      (subst (λ (q : Node). IsBlock s (suc i) (q .b)) (sym is) (parts-by-op table (at .block) 5 o .firstBody))
+  while-body = first-body (table h) (h .at) (h .is) (h .by)
 
   good-body : Good s (blockAt s (i + 1) (r .b))
-  good-body = block-good table (c .running .typing) (i + 1) (r .b) while-body
+  good-body = block-good (table h) (h .came .running .typing) (i + 1) (r .b) while-body
 
-  module _ (some : 0 < t) {m : List ℕ} {g : Tested} (leaves : TestLeaves l (evaluated s σ l n (r .a)) g m) where
-    one-less : t ≡ suc (t - 1)
-    one-less = omega arith
+  form : runs s σ l n a (suc (t - 1)) (blockAt s i (suc (bodiesOf r)))
+      ≡ guarded i (t - 1) a σ
+      (λ M. run (context s) (roomIn l) (t - 1) (blockAt s (i + 1) (r .b) then blockAt s i (suc (bodiesOf r))) σ M a)
+      (λ M. run (context s) (roomIn l) (t - 1) S.end σ M a) (evaluated s σ l n (r .a))
+  unfolding run
+  form =
+      let alone = while-alone s i (h .is) (h .by) (here h) in
+      ap (runs s σ l n a (suc (t - 1))) alone
+      ∙ ap (λ (w : Block). guarded i (t - 1) a σ
+      (λ M. run (context s) (roomIn l) (t - 1) (blockAt s (i + 1) (r .b) then w) σ M a)
+      (λ M. run (context s) (roomIn l) (t - 1) S.end σ M a) (evaluated s σ l n (r .a))) (sym alone)
 
-    with-tick : Came s l₀ n₀ t₀ whole (blockAt s i (suc (bodiesOf r))) σ l n a (suc (t - 1))
-    with-tick = subst (Came s l₀ n₀ t₀ whole (blockAt s i (suc (bodiesOf r))) σ l n a) one-less c
+  pub while-fails : {k : ℕ} {y : Ran} → g ≡ Fails k → y ≡ goesOn (t - 1) k a → RunLeaves l₀ whole y σ m
+  while-fails q = came-ends (fails-came (t - 1) i (with-tick h) (r .a) guard _ _ form (h .tested) q)
 
-    form : runs s σ l n a (suc (t - 1)) (blockAt s i (suc (bodiesOf r)))
-        ≡ guarded i (t - 1) a σ
-        (λ M. run (context s) (length l / entrySize) (t - 1) (blockAt s (i + 1) (r .b) then blockAt s i (suc (bodiesOf r))) σ M a)
-        (λ M. run (context s) (length l / entrySize) (t - 1) S.end σ M a) (evaluated s σ l n (r .a))
-    unfolding run
-    form =
-        let alone = while-alone s i is op here in
-        ap (runs s σ l n a (suc (t - 1))) alone
-        ∙ ap (λ (w : Block). guarded i (t - 1) a σ
-        (λ M. run (context s) (length l / entrySize) (t - 1) (blockAt s (i + 1) (r .b) then w) σ M a)
-        (λ M. run (context s) (length l / entrySize) (t - 1) S.end σ M a) (evaluated s σ l n (r .a))) (sym alone)
+  pub while-stops : {code k : ℕ} {y : Ran} → g ≡ Stops code k → y ≡ stopsAt code i (t - 1) k a → RunLeaves l₀ whole y σ m
+  while-stops = stops-leaves (t - 1) i (with-tick h) (r .a) guard _ _ form (h .tested)
 
-    pub while-fails : {k : ℕ} {y : Ran} → g ≡ Fails k → y ≡ goesOn (t - 1) k a → RunLeaves l₀ whole y σ m
-    while-fails q = came-ends (fails-came (t - 1) i with-tick (r .a) while-asks _ _ form leaves q)
+  module _ {k : ℕ} (q : g ≡ Holds k) where
+    turn : Came s l₀ n₀ t₀ whole (blockAt s (i + 1) (r .b) then blockAt s i (suc (bodiesOf r))) σ m k a (t - 1)
+    turn = holds-came (t - 1) i (with-tick h) (r .a) guard _ _ form (h .tested) q
 
-    pub while-stops : {code k : ℕ} {y : Ran} → g ≡ Stops code k → y ≡ stopsAt code i (t - 1) k a → RunLeaves l₀ whole y σ m
-    while-stops = stops-leaves (t - 1) i with-tick (r .a) while-asks _ _ form leaves
+    pub while-running : Running s σ m k a
+    while-running = turn .running
 
-    module _ {k : ℕ} (q : g ≡ Holds k) where
-      turn : Came s l₀ n₀ t₀ whole (blockAt s (i + 1) (r .b) then blockAt s i (suc (bodiesOf r))) σ m k a (t - 1)
-      turn = holds-came (t - 1) i with-tick (r .a) while-asks _ _ form leaves q
+    module _ {x : Ran} {τ p : List ℕ} (body : RunLeaves m (runs s σ m k a (t - 1) (blockAt s (i + 1) (r .b))) x τ p) where
+      pub while-again : x .ending ≡ Done → Came s l₀ n₀ t₀ whole (blockAt s i (suc (bodiesOf r))) τ p (x .count) (x .next) (x .ticks)
+      while-again = done-then (blockAt s (i + 1) (r .b)) (blockAt s i (suc (bodiesOf r))) turn good-body body
 
-      pub while-running : Running s σ m k a
-      while-running = turn .running
+      pub while-halts : Halts (x .ending) → RunLeaves l₀ whole x τ p
+      while-halts = halted-then (blockAt s (i + 1) (r .b)) (blockAt s i (suc (bodiesOf r))) turn good-body body
 
-      module _ {x : Ran} {τ p : List ℕ} (body : RunLeaves m (runs s σ m k a (t - 1) (blockAt s (i + 1) (r .b))) x τ p) where
-        pub while-again : x .ending ≡ Done → Came s l₀ n₀ t₀ whole (blockAt s i (suc (bodiesOf r))) τ p (x .count) (x .next) (x .ticks)
-        while-again = done-then (blockAt s (i + 1) (r .b)) (blockAt s i (suc (bodiesOf r))) turn good-body body
-
-        pub while-halts : {code place : ℕ} → x .ending ≡ Stopped code place → RunLeaves l₀ whole x τ p
-        while-halts = stopped-then (blockAt s (i + 1) (r .b)) (blockAt s i (suc (bodiesOf r))) turn good-body body
-
-        pub while-refuses : {code place : ℕ} → x .ending ≡ Refused code place → RunLeaves l₀ whole x τ p
-        while-refuses = refused-then (blockAt s (i + 1) (r .b)) (blockAt s i (suc (bodiesOf r))) turn good-body body
-
-        pub while-fewer : x .ticks < t
-        while-fewer = let less = ended (t - 1) (turn .running) good-body body .fewer in omega arith
+      pub while-fewer : x .ticks < t
+      while-fewer = let some = h .some in let less = ended (t - 1) (turn .running) good-body body .fewer in omega arith
 
 -- ------------------------------------------------------------------------------------------------
 -- An if
 
-module _ {s l₀ : List ℕ} {i n₀ t₀ : ℕ} {whole : Left} {r : Node} (at : Standing s i) (is : r ≡ statement s i) (op : r .op ≡ 6) {σ l : List ℕ} {n a t : ℕ}
-    (c : Came s l₀ n₀ t₀ whole (blockAt s i (suc (bodiesOf r))) σ l n a t) where
-  abbrev o : statement s i .op ≡ 6
-  o = sym (ap (λ (q : Node). q .op) is) ∙ op
-
-  pub if-asks : r .a < header s .expressions
-  if-asks =
-      let e = o in
-      subst (λ (q : Node). q .a < header s .expressions) (sym is)
-      (read-field (c .running .records) at (omega arith) (omega arith) (omega arith))
-
-  pub if-then : IsBlock s (i + 1) (r .b)
-  if-then =
-      let next : suc i ≡ i + 1 = omega arith in
-      subst (λ (at : ℕ). IsBlock s at (r .b)) next
-      (subst (λ (q : Node). IsBlock s (suc i) (q .b)) (sym is) (parts-by-op (c .running .records) (at .block) 6 o .firstBody))
-
-  pub if-else : IsBlock s (i + 1 + r .b) (r .c)
-  if-else =
-      let next : suc i + r .b ≡ i + 1 + r .b = omega arith in
-      subst (λ (at : ℕ). IsBlock s at (r .c)) next
-      (subst (λ (q : Node). IsBlock s (suc i + q .b) (q .c)) (sym is) (parts-by-op (c .running .records) (at .block) 6 o .secondBody))
-
-  module _ (some : 0 < t) {m : List ℕ} {g : Tested} (leaves : TestLeaves l (evaluated s σ l n (r .a)) g m) where
-    begun : Came s l₀ n₀ t₀ whole (blockAt s i (suc (bodiesOf r))) σ l n a (suc (t - 1))
-    begun = let e : t ≡ suc (t - 1) = omega arith in subst (Came s l₀ n₀ t₀ whole (blockAt s i (suc (bodiesOf r))) σ l n a) e c
-
-    shape : runs s σ l n a (suc (t - 1)) (blockAt s i (suc (bodiesOf r)))
-        ≡ guarded i (t - 1) a σ
-        (λ M. run (context s) (length l / entrySize) (t - 1) (blockAt s (i + 1) (r .b) then S.end) σ M a)
-        (λ M. run (context s) (length l / entrySize) (t - 1) (blockAt s (i + 1 + r .b) (r .c) then S.end) σ M a) (evaluated s σ l n (r .a))
-    unfolding run
-    shape = ap (runs s σ l n a (suc (t - 1))) (if-alone s i is op (inside (c .running .records) at))
-
-    pub if-stops : {code k : ℕ} {y : Ran} → g ≡ Stops code k → y ≡ stopsAt code i (t - 1) k a → RunLeaves l₀ whole y σ m
-    if-stops = stops-leaves (t - 1) i begun (r .a) if-asks _ _ shape leaves
-
-    pub then-came : {k : ℕ} → g ≡ Holds k → Came s l₀ n₀ t₀ whole (blockAt s (i + 1) (r .b)) σ m k a (t - 1)
-    then-came {k} q =
-        subst (λ (b : Block). Came s l₀ n₀ t₀ whole b σ m k a (t - 1)) (then-end (blockAt s (i + 1) (r .b)))
-        (holds-came (t - 1) i begun (r .a) if-asks _ _ shape leaves q)
-
-    pub else-came : {k : ℕ} → g ≡ Fails k → Came s l₀ n₀ t₀ whole (blockAt s (i + 1 + r .b) (r .c)) σ m k a (t - 1)
-    else-came {k} q =
-        subst (λ (b : Block). Came s l₀ n₀ t₀ whole b σ m k a (t - 1)) (then-end (blockAt s (i + 1 + r .b) (r .c)))
-        (fails-came (t - 1) i begun (r .a) if-asks _ _ shape leaves q)
-
 -- a body that is the rest of the whole
-pub body-leaves : {s l₀ σ l : List ℕ} {n₀ t₀ n a t : ℕ} {whole : Left} (from size : ℕ) → IsBlock s from size
+body-leaves : {s l₀ σ l : List ℕ} {n₀ t₀ n a t : ℕ} {whole : Left} (from size : ℕ) → IsBlock s from size
     → Came s l₀ n₀ t₀ whole (blockAt s from size) σ l n a t → {x : Ran} {τ m : List ℕ} → RunLeaves l (runs s σ l n a t (blockAt s from size)) x τ m
     → RunLeaves l₀ whole x τ m
 body-leaves from size block c = comes-to-end c (block-good (c .running .records) (c .running .typing) from size block)
+
+module _ {s l₀ : List ℕ} {n₀ t₀ : ℕ} {whole : Left} {i : ℕ} {r : Node} {σ l : List ℕ} {n a t : ℕ} {g : Tested} {m : List ℕ}
+    (h : Begun 6 s l₀ n₀ t₀ whole i r σ l n a t g m) where
+  condition : r .a < header s .expressions
+  condition = guard-inside (table h) (h .at) (h .is) (h .by) (omega arith)
+
+  pub then-block : IsBlock s (i + 1) (r .b)
+  then-block = first-body (table h) (h .at) (h .is) (h .by)
+
+  pub else-block : IsBlock s (i + 1 + r .b) (r .c)
+  else-block =
+      let next : suc i + r .b ≡ i + 1 + r .b = omega arith in
+      subst (λ (at : ℕ). IsBlock s at (r .c)) next
+      (subst (λ (q : Node). IsBlock s (suc i + q .b) (q .c)) (sym (h .is))
+      (parts-by-op (table h) (h .at .block) 6 (read-op (table h) (h .at) (h .is) (h .by)) .secondBody))
+
+  shape : runs s σ l n a (suc (t - 1)) (blockAt s i (suc (bodiesOf r)))
+      ≡ guarded i (t - 1) a σ
+      (λ M. run (context s) (roomIn l) (t - 1) (blockAt s (i + 1) (r .b) then S.end) σ M a)
+      (λ M. run (context s) (roomIn l) (t - 1) (blockAt s (i + 1 + r .b) (r .c) then S.end) σ M a) (evaluated s σ l n (r .a))
+  unfolding run
+  shape = ap (runs s σ l n a (suc (t - 1))) (if-alone s i (h .is) (h .by) (here h))
+
+  pub if-stops : {code k : ℕ} {y : Ran} → g ≡ Stops code k → y ≡ stopsAt code i (t - 1) k a → RunLeaves l₀ whole y σ m
+  if-stops = stops-leaves (t - 1) i (with-tick h) (r .a) condition _ _ shape (h .tested)
+
+  module _ {k : ℕ} where
+    pub then-came : g ≡ Holds k → Came s l₀ n₀ t₀ whole (blockAt s (i + 1) (r .b)) σ m k a (t - 1)
+    then-came q =
+        subst (λ (b : Block). Came s l₀ n₀ t₀ whole b σ m k a (t - 1)) (then-end (blockAt s (i + 1) (r .b)))
+        (holds-came (t - 1) i (with-tick h) (r .a) condition _ _ shape (h .tested) q)
+
+    pub else-came : g ≡ Fails k → Came s l₀ n₀ t₀ whole (blockAt s (i + 1 + r .b) (r .c)) σ m k a (t - 1)
+    else-came q =
+        subst (λ (b : Block). Came s l₀ n₀ t₀ whole b σ m k a (t - 1)) (then-end (blockAt s (i + 1 + r .b) (r .c)))
+        (fails-came (t - 1) i (with-tick h) (r .a) condition _ _ shape (h .tested) q)
+
+    module _ {x : Ran} {τ p : List ℕ} where
+      pub then-leaves : g ≡ Holds k → RunLeaves m (runs s σ m k a (t - 1) (blockAt s (i + 1) (r .b))) x τ p → RunLeaves l₀ whole x τ p
+      then-leaves q = body-leaves (i + 1) (r .b) then-block (then-came q)
+
+      pub else-leaves : g ≡ Fails k → RunLeaves m (runs s σ m k a (t - 1) (blockAt s (i + 1 + r .b) (r .c))) x τ p → RunLeaves l₀ whole x τ p
+      else-leaves q = body-leaves (i + 1 + r .b) (r .c) else-block (else-came q)
 
 -- ------------------------------------------------------------------------------------------------
 -- A statement without a body

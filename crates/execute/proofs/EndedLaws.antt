@@ -9,16 +9,17 @@ use Rattle.table.specs.Records.{Framed, RecordsHold}
 use Rattle.table.specs.Decode.{context}
 use Rattle.table.specs.Syntax.{Block}
 use Rattle.typing.specs.Typing.{TypingHolds}
-use Rattle.memory.specs.Log.{Log, entrySize, entries, holding}
+use Rattle.memory.specs.Log.{Log, entrySize, entries, holding, roomIn}
 use Rattle.memory.proofs.LogLaws.{entries-holding}
 use Rattle.running.specs.declared.Ending.{Ending}
 use Rattle.running.specs.declared.Ending.the-variants.{Done, Refused, Stopped}
 use Rattle.running.specs.Run.{Left, left, run}
 use Rattle.running.proofs.PairLaws.{declared}
-use Rattle.running.proofs.RunKeeps.{Stands, Kept, run-keeps}
+use Rattle.running.specs.Standing.{Stands}
+use Rattle.running.proofs.RunKeeps.{Kept, run-keeps}
 use Rattle.evaluate.proofs.WentLaws.{Went, went, over}
 use Rattle.effect.specs.declared.Ran.{Ran}
-use Rattle.effect.specs.Leaving.{Running, RunLeaves, numbersOf}
+use Rattle.effect.specs.Leaving.{Running, RunLeaves, numbersOf, runs}
 use Rattle.effect.proofs.StandingLaws.{Good}
 use Rattle.effect.proofs.LeavingLaws.{stays}
 use Rattle.execute.proofs.ThenLaws.{onward}
@@ -32,6 +33,11 @@ pub record Table (s : List ℕ) : Type 0 where
 abbrev pub table-of : {s σ l : List ℕ} {n a : ℕ} → Running s σ l n a → Table s
 table-of here = record { framed = here .framed; records = here .records; typing = here .typing }
 
+-- an ending after which nothing more is run
+pub data Halts (e : Ending) : Type 0 where
+  refuses : {code place : ℕ} → e ≡ Refused code place → Halts e
+  stops : {code place : ℕ} → e ≡ Stopped code place → Halts e
+
 -- a run x from a buffer l of n entries with t ticks has ended with r, the state σ and the buffer m
 pub record Ended (s l : List ℕ) (n t : ℕ) (x : Left) (r : Ran) (σ m : List ℕ) : Type 0 where
   pub is : x ≡ left (r .ending) (r .ticks) σ (entries m (r .count)) (r .next)
@@ -40,7 +46,7 @@ pub record Ended (s l : List ℕ) (n t : ℕ) (x : Left) (r : Ran) (σ m : List 
   pub fewer : r .ticks ≤ t
 
 -- by what it left
-from-left : {s l : List ℕ} {n t : ℕ} (x : Left) → Table s → Kept s (length l / entrySize) t (entries l n) x
+from-left : {s l : List ℕ} {n t : ℕ} (x : Left) → Table s → Kept s (roomIn l) t (entries l n) x
     → Ended s l n t x (numbersOf x) (x .state) (holding l (x .log))
 unfolding left
 from-left {s} {l} {n} x table k =
@@ -54,53 +60,49 @@ from-left {s} {l} {n} x table k =
         records = table .records;
         typing = table .typing;
         stands = subst (λ (size : ℕ). Stands s (size / entrySize) (x .state) (entries (holding l (x .log)) (length (x .log))) (x .next)) (sym (w .same))
-            (subst (λ (L : Log). Stands s (length l / entrySize) (x .state) L (x .next)) (sym same)
+            (subst (λ (L : Log). Stands s (roomIn l) (x .state) L (x .next)) (sym same)
             (record { state = k .state; log = k .log; next = k .next }));
       };
       fewer = k .remaining;
     }
 
-from-leaves : {s l σ m : List ℕ} {n t : ℕ} {x : Left} {r : Ran} → Table s → Kept s (length l / entrySize) t (entries l n) x → RunLeaves l x r σ m
+from-leaves : {s l σ m : List ℕ} {n t : ℕ} {x : Left} {r : Ran} → Table s → Kept s (roomIn l) t (entries l n) x → RunLeaves l x r σ m
     → Ended s l n t x r σ m
 from-leaves {s} {l} {σ} {m} {n} {t} {x} {r} table k leaves =
     subst (λ (r : Ran). Ended s l n t x r σ m) (sym (leaves .is))
     (subst (λ (σ : List ℕ). Ended s l n t x (numbersOf x) σ m) (sym (leaves .state))
     (subst (λ (m : List ℕ). Ended s l n t x (numbersOf x) (x .state) m) (sym (leaves .holds)) (from-left x table k)))
 
--- the run of a block that may be run
-abbrev pub runs : (s σ l : List ℕ) (n a t : ℕ) → Block → Left
-runs s σ l n a t b = run (context s) (length l / entrySize) t b σ (entries l n) a
-
 pub ended : {s σ l τ m : List ℕ} {n a : ℕ} {r : Ran} (t : ℕ) {b : Block} → Running s σ l n a → Good s b → RunLeaves l (runs s σ l n a t b) r τ m
     → Ended s l n t (runs s σ l n a t b) r τ m
 ended {s} {l = l} t here good leaves =
     from-leaves (table-of here)
-    (run-keeps s (λ x h. declared _ (here .records .variables x h)) (length l / entrySize) t (good .typed) (good .formed) (here .stands)) leaves
+    (run-keeps s (λ x h. declared _ (here .records .variables x h)) (roomIn l) t (good .typed) (good .formed) (here .stands)) leaves
 
 -- ------------------------------------------------------------------------------------------------
 -- On from there
 
 module _ {s l σ m : List ℕ} {n t : ℕ} {x : Left} {r : Ran} (e : Ended s l n t x r σ m) (k : Block) where
   -- done: the next block is run from what is there
-  pub goes-onward : r .ending ≡ Done → onward (context s) (length l / entrySize) x k ≡ runs s σ m (r .count) (r .next) (r .ticks) k
+  pub goes-onward : r .ending ≡ Done → onward (context s) (roomIn l) x k ≡ runs s σ m (r .count) (r .next) (r .ticks) k
   unfolding onward left
   goes-onward d =
-      ap (λ (x : Left). onward (context s) (length l / entrySize) x k)
+      ap (λ (x : Left). onward (context s) (roomIn l) x k)
       (e .is ∙ ap (λ (ending : Ending). left ending (r .ticks) σ (entries m (r .count)) (r .next)) d)
       ∙ ap (λ (size : ℕ). run (context s) (size / entrySize) (r .ticks) k σ (entries m (r .count)) (r .next)) (sym (e .went .same))
 
   -- not done: the run has ended
-  pub stops-onward : {code place : ℕ} → r .ending ≡ Stopped code place → onward (context s) (length l / entrySize) x k ≡ x
-  unfolding onward left
-  stops-onward {code} {place} d =
+  stays-there : {ending : Ending} → r .ending ≡ ending
+      → (let y = left ending (r .ticks) σ (entries m (r .count)) (r .next) in onward (context s) (roomIn l) y k ≡ y)
+      → onward (context s) (roomIn l) x k ≡ x
+  stays-there d there =
       let same = e .is ∙ ap (λ (ending : Ending). left ending (r .ticks) σ (entries m (r .count)) (r .next)) d in
-      ap (λ (x : Left). onward (context s) (length l / entrySize) x k) same ∙ sym same
+      ap (λ (x : Left). onward (context s) (roomIn l) x k) same ∙ there ∙ sym same
 
-  pub refuses-onward : {code place : ℕ} → r .ending ≡ Refused code place → onward (context s) (length l / entrySize) x k ≡ x
+  pub halts-onward : Halts (r .ending) → onward (context s) (roomIn l) x k ≡ x
   unfolding onward left
-  refuses-onward {code} {place} d =
-      let same = e .is ∙ ap (λ (ending : Ending). left ending (r .ticks) σ (entries m (r .count)) (r .next)) d in
-      ap (λ (x : Left). onward (context s) (length l / entrySize) x k) same ∙ sym same
+  halts-onward (refuses d) = stays-there d refl
+  halts-onward (stops d) = stays-there d refl
 
 -- ------------------------------------------------------------------------------------------------
 -- A run that began earlier, from buffer l₀ of n₀ entries with t₀ ticks, and has come to here
@@ -126,5 +128,5 @@ module _ {s l₀ σ l : List ℕ} {n₀ t₀ n a t : ℕ} {whole : Left} {b : Bl
         holds =
             leaves .holds
             ∙ over (c .went) _
-            (run-keeps s (λ x h. declared _ (c .running .records .variables x h)) (length l / entrySize) t (good .typed) (good .formed) (c .running .stands) .grown);
+            (run-keeps s (λ x h. declared _ (c .running .records .variables x h)) (roomIn l) t (good .typed) (good .formed) (c .running .stands) .grown);
       })

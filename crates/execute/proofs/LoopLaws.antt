@@ -1,28 +1,27 @@
 -- The two loops: a block's statements, and a while's turns. Assumes nothing.
 use mathlib.Core.Path.{_≡_, sym, ap, ap₂, subst, _∙_}
 use mathlib.Core.List.{List}
-use Prim.Native.Nat.{ℕ, suc, _+_, _-_, _/_, _≤_, _<_}
+use Prim.Native.Nat.{ℕ, suc, _+_, _-_, _≤_, _<_}
 use native.Mathlib.Omega.{arith}
-use lib.ListN.{length}
 use Rattle.table.specs.declared.Node.{Node}
 use Rattle.table.specs.Bytes.{statement}
 use Rattle.table.specs.Decode.{context, blockAt}
 use Rattle.table.specs.Syntax.{Block, _then_}
 use Rattle.table.proofs.BlockLaws.{block-none}
-use Rattle.table.proofs.Nesting.{IsBlock}
-use Rattle.memory.specs.Log.{entrySize, entries}
-use Rattle.running.specs.declared.Ending.the-variants.{Done, Refused, Stopped}
+use Rattle.table.specs.Asked.{IsBlock}
+use Rattle.memory.specs.Log.{entries, roomIn}
+use Rattle.running.specs.declared.Ending.the-variants.{Done}
 use Rattle.running.specs.Run.{Left}
 use Rattle.evaluate.proofs.WentLaws.{went-trans}
 use Rattle.effect.specs.declared.Ran.{Ran}
-use Rattle.effect.specs.Leaving.{Running, Standing, RunLeaves, goesOn}
+use Rattle.effect.specs.Leaving.{Running, Standing, RunLeaves, goesOn, runs}
 use Rattle.effect.proofs.StandingLaws.{Good, inside}
 use Rattle.effect.proofs.LeavingLaws.{leaves-left}
 use Rattle.effect.proofs.AloneLaws.{run-end}
 use Rattle.execute.specs.Extent.{bodiesOf}
 use Rattle.execute.proofs.ThenLaws.{onward, run-then}
 use Rattle.execute.proofs.SplitLaws.{bodies-fit, rest-block, split, first-good}
-use Rattle.execute.proofs.EndedLaws.{Ended, ended, runs, goes-onward, stops-onward, refuses-onward, Came, came-first, comes-to-end}
+use Rattle.execute.proofs.EndedLaws.{Halts, Ended, ended, goes-onward, halts-onward, Came, came-first, comes-to-end}
 
 -- ------------------------------------------------------------------------------------------------
 -- One block and then another, from where a run has come to
@@ -32,8 +31,8 @@ module _ {s l₀ σ l : List ℕ} {n₀ t₀ n a t : ℕ} {whole : Left} (b k : 
   has-ended : Ended s l n t (runs s σ l n a t b) x τ m
   has-ended = ended t (c .running) good leaves
 
-  so-far : whole ≡ onward (context s) (length l / entrySize) (runs s σ l n a t b) k
-  so-far = c .same ∙ run-then (context s) (length l / entrySize) t b k σ (entries l n) a
+  so-far : whole ≡ onward (context s) (roomIn l) (runs s σ l n a t b) k
+  so-far = c .same ∙ run-then (context s) (roomIn l) t b k σ (entries l n) a
 
   pub done-then : x .ending ≡ Done → Came s l₀ n₀ t₀ whole k τ m (x .count) (x .next) (x .ticks)
   done-then d =
@@ -46,11 +45,8 @@ module _ {s l₀ σ l : List ℕ} {n₀ t₀ n a t : ℕ} {whole : Left} (b k : 
   first-is-all p =
       comes-to-end (record { running = c .running; went = c .went; fewer = c .fewer; same = p }) good leaves
 
-  pub stopped-then : {code place : ℕ} → x .ending ≡ Stopped code place → RunLeaves l₀ whole x τ m
-  stopped-then d = first-is-all (so-far ∙ stops-onward has-ended k d)
-
-  pub refused-then : {code place : ℕ} → x .ending ≡ Refused code place → RunLeaves l₀ whole x τ m
-  refused-then d = first-is-all (so-far ∙ refuses-onward has-ended k d)
+  pub halted-then : Halts (x .ending) → RunLeaves l₀ whole x τ m
+  halted-then h = first-is-all (so-far ∙ halts-onward has-ended k h)
 
 -- ------------------------------------------------------------------------------------------------
 -- The statements of a block that ends before `end`
@@ -87,7 +83,7 @@ module _ {s l₀ σ l : List ℕ} {n₀ t₀ end i n a t : ℕ} {whole : Left} (
       (leaves-left Done (c .went)
       (c .same
       ∙ ap (runs s σ l n a t) (ap (blockAt s i) none ∙ block-none s i)
-      ∙ run-end (context s) (length l / entrySize) t σ (entries l n) a))
+      ∙ run-end (context s) (roomIn l) t σ (entries l n) a))
 
   module _ (h : i < end) where
     abbrev behind : ℕ
@@ -132,8 +128,5 @@ module _ {s l₀ σ l : List ℕ} {n₀ t₀ end i n a t : ℕ} {whole : Left} (
                 (done-then (blockAt s i (suc bodies)) (blockAt s (suc i + bodies) (behind - bodies)) split-here good-here leaves-first d);
           }
 
-      pub block-stops : {code place : ℕ} → x .ending ≡ Stopped code place → RunLeaves l₀ whole x τ m
-      block-stops = stopped-then (blockAt s i (suc bodies)) (blockAt s (suc i + bodies) (behind - bodies)) split-here good-here leaves-first
-
-      pub block-refuses : {code place : ℕ} → x .ending ≡ Refused code place → RunLeaves l₀ whole x τ m
-      block-refuses = refused-then (blockAt s i (suc bodies)) (blockAt s (suc i + bodies) (behind - bodies)) split-here good-here leaves-first
+      pub block-halts : Halts (x .ending) → RunLeaves l₀ whole x τ m
+      block-halts = halted-then (blockAt s i (suc bodies)) (blockAt s (suc i + bodies) (behind - bodies)) split-here good-here leaves-first

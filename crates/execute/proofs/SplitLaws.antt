@@ -11,7 +11,8 @@ use Rattle.table.specs.Syntax.{Block, _then_}
 use Rattle.table.proofs.View.{Reads, r-move, r-jmp, r-cpuexn, r-special, r-while, r-if}
 use Rattle.table.proofs.Program.{block-reads}
 use Rattle.table.proofs.BlockLaws.{block-none, block-move, block-jmp, block-cpuexn, block-special, block-while, block-if}
-use Rattle.table.proofs.Nesting.{IsBlock, parts-by-op}
+use Rattle.table.specs.Asked.{IsBlock}
+use Rattle.table.proofs.Nesting.{parts-by-op}
 use Rattle.typing.specs.Typing.{TypingHolds}
 use Rattle.memory.specs.Log.{Log}
 use Rattle.running.specs.Run.{stop, run}

@@ -1,14 +1,14 @@
 -- A guard that was tested: what the run of its statement goes on with. Assumes nothing.
 use mathlib.Core.Path.{_≡_, refl, sym, ap, subst, _∙_}
 use mathlib.Core.List.{List, []}
-use Prim.Native.Nat.{ℕ, _/_, _<_}
+use Prim.Native.Nat.{ℕ, _<_}
 use lib.ListN.{length}
 use Rattle.table.specs.Bytes.{header}
 use Rattle.table.specs.Decode.{context, expr}
 use Rattle.table.proofs.ExpressionLaws.{expr-view}
-use Rattle.memory.specs.Log.{Log, entrySize, entries, holding}
+use Rattle.memory.specs.Log.{Log, entries, holding, roomIn}
 use Rattle.memory.proofs.LogLaws.{_⊑_, entries-holding}
-use Rattle.memory.proofs.LogRules.{InRoom}
+use Rattle.memory.specs.Room.{InRoom}
 use Rattle.value.specs.declared.ValueType.{ValueType}
 use Rattle.evaluation.specs.Evaluation as E
 use Rattle.evaluation.proofs.EvaluationLaws.{Gives, gives, stops}
@@ -20,7 +20,7 @@ use Rattle.running.proofs.PairLaws.{declared, state-fits}
 use Rattle.evaluate.proofs.WentLaws.{Went, went}
 use Rattle.effect.specs.declared.guard.Tested.{Tested}
 use Rattle.effect.specs.declared.guard.Tested.the-variants.{Holds, Fails, Stops}
-use Rattle.effect.specs.Leaving.{Running, TestLeaves, testOf, tested}
+use Rattle.effect.specs.Leaving.{Running, TestLeaves, testOf, tested, evaluated}
 
 -- ------------------------------------------------------------------------------------------------
 -- By the answer
@@ -72,10 +72,6 @@ on : {room : ℕ} {L : Log} {t : ValueType} {r : E.Evaluated} → Gives room L t
 on (gives p k h) = (p, k)
 on (stops p k c) = (p, k)
 
--- the evaluation of an expression without bindings
-abbrev pub evaluated : (s σ l : List ℕ) (n e : ℕ) → E.Evaluated
-evaluated s σ l n e = E.eval (context s) (length l / entrySize) σ (expr s e) [] (entries l n)
-
 module _ {s σ l : List ℕ} {n a : ℕ} (here : Running s σ l n a) (e : ℕ) (inside : e < header s .expressions) where
   module _ {r : Tested} {m : List ℕ} (leaves : TestLeaves l (evaluated s σ l n e) r m) where
     counted : countOf r ≡ length (logIn (evaluated s σ l n e))
@@ -85,7 +81,7 @@ module _ {s σ l : List ℕ} {n a : ℕ} (here : Running s σ l n a) (e : ℕ) (
     test-went =
         let (t, d) = here .typing .expressions e inside in
         let (p, k) =
-        on (eval-keeps (context s) (header s .variables) (length l / entrySize) σ d (formed s (expr-view (here .records)) e inside)
+        on (eval-keeps (context s) (header s .variables) (roomIn l) σ d (formed s (expr-view (here .records)) e inside)
         (state-fits s (λ x h. declared _ (here .records .variables x h)) (here .stands .state) (here .stands .log))) in
         subst (λ (m : List ℕ). Went l n m (countOf r)) (sym (leaves .holds))
         (subst (Went l n (holding l (logIn (evaluated s σ l n e)))) (sym counted) (went l n (logIn (evaluated s σ l n e)) p k))

@@ -1,7 +1,7 @@
 -- No second answer fits: the contract leaves one result, and one content of the state and of the log. Assumes nothing.
 use contract.Lifetimes.{Lfts}
 use denote.Ref.{now}
-use Rattle.base.proofs.Unique.{OneOutcome}
+use Rattle.base.specs.OneAnswer.{OneOutcome}
 use Rattle.effect.proofs.Unique.{Buffers, leaves-unique}
 use Rattle.execute.proofs as execute
 

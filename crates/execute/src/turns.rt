@@ -2,16 +2,13 @@
 // begun with a tick, so each body runs with fewer ticks than its statement had. The calls go no deeper than statements nest, 32: no
 // budget needs more room than another.
 ghost use mathlib.Core.Path.{_≡_};
-ghost use Prim.Native.Nat.{suc, _/_, _<_};
-ghost use lib.ListN.{length};
+ghost use Prim.Native.Nat.{suc, _<_};
 ghost use Rattle.table.specs.Bytes as Bytes;
-ghost use Rattle.table.specs.Decode.{context, blockAt};
-ghost use Rattle.table.proofs.Nesting.{IsBlock};
-ghost use Rattle.memory.specs.Log.{entrySize, entries};
-ghost use Rattle.running.specs.Run.{run};
-ghost use Rattle.effect.specs.Leaving.{Running, Standing, RunLeaves};
+ghost use Rattle.table.specs.Decode.{blockAt};
+ghost use Rattle.table.specs.Asked.{IsBlock};
+ghost use Rattle.effect.specs.Leaving.{Running, Standing, RunLeaves, runs};
 ghost use Rattle.execute.specs.Extent.{bodiesOf};
-use effect::NO_TICK;
+use base::codes;
 use effect::Ran;
 use effect::goes_on;
 use effect::guard::Tested;
@@ -49,7 +46,7 @@ pub fn block(
 ) -> Ran
     requires { ⌜ Running (now s) (now state) (now log) count next ⌝ }
     requires { ⌜ IsBlock (now s) from size ⌝ }
-    ensures { λ x. ⌜ RunLeaves (now (log .entry)) (run (context (now (s .entry))) (length (now (log .entry)) / entrySize) ticks (blockAt (now (s .entry)) from size) (now (state .entry)) (entries (now (log .entry)) count) next) x (now (state .exit)) (now (log .exit)) ⌝ }
+    ensures { λ x. ⌜ RunLeaves (now (log .entry)) (runs (now (s .entry)) (now (state .entry)) (now (log .entry)) count next ticks (blockAt (now (s .entry)) from size)) x (now (state .exit)) (now (log .exit)) ⌝ }
 {
     let end = from + size;
     let mut i = from;
@@ -89,7 +86,7 @@ fn turns(
     requires { ⌜ Standing (now s) i ⌝ }
     requires { ⌜ r ≡ Bytes.statement (now s) i ⌝ }
     requires { ⌜ r .op ≡ 5 ⌝ }
-    ensures { λ x. ⌜ RunLeaves (now (log .entry)) (run (context (now (s .entry))) (length (now (log .entry)) / entrySize) ticks (blockAt (now (s .entry)) i (suc (bodiesOf r))) (now (state .entry)) (entries (now (log .entry)) count) next) x (now (state .exit)) (now (log .exit)) ⌝ }
+    ensures { λ x. ⌜ RunLeaves (now (log .entry)) (runs (now (s .entry)) (now (state .entry)) (now (log .entry)) count next ticks (blockAt (now (s .entry)) i (suc (bodiesOf r)))) x (now (state .exit)) (now (log .exit)) ⌝ }
 {
     let mut t = ticks;
     let mut n = count;
@@ -114,7 +111,7 @@ fn turns(
             Tested::Stops(code, m) => return stops_at(code, i, t - 1, m, a),
         }
     }
-    stops_at(NO_TICK, i, t, n, a)
+    stops_at(codes::NO_TICK, i, t, n, a)
 }
 
 // One statement, with its bodies.
@@ -131,10 +128,10 @@ fn statement(
     requires { ⌜ Running (now s) (now state) (now log) count next ⌝ }
     requires { ⌜ Standing (now s) i ⌝ }
     requires { ⌜ r ≡ Bytes.statement (now s) i ⌝ }
-    ensures { λ x. ⌜ RunLeaves (now (log .entry)) (run (context (now (s .entry))) (length (now (log .entry)) / entrySize) ticks (blockAt (now (s .entry)) i (suc (bodiesOf r))) (now (state .entry)) (entries (now (log .entry)) count) next) x (now (state .exit)) (now (log .exit)) ⌝ }
+    ensures { λ x. ⌜ RunLeaves (now (log .entry)) (runs (now (s .entry)) (now (state .entry)) (now (log .entry)) count next ticks (blockAt (now (s .entry)) i (suc (bodiesOf r)))) x (now (state .exit)) (now (log .exit)) ⌝ }
 {
     if ticks == 0 {
-        return stops_at(NO_TICK, i, ticks, count, next);
+        return stops_at(codes::NO_TICK, i, ticks, count, next);
     }
     let op = r.op;
     match op {

@@ -1,8 +1,8 @@
 -- Counting how often each number stands in a list. Assumes nothing.
-use mathlib.Core.Path.{_≡_, refl, ap, subst, _∙_}
+use mathlib.Core.Path.{_≡_, refl, ap, sym, subst, _∙_}
 use mathlib.Core.Bool.{Bool, true, false}
 use mathlib.Core.List.{List, [], _∷_, _++_}
-use Prim.Native.Nat.{ℕ, zero, suc, _+_, _*_, _≤_, _<_}
+use Prim.Native.Nat.{ℕ, zero, suc, _+_, _-_, _*_, _^_, _≤_, _<_}
 use native.Mathlib.Numerals.{add-one}
 use native.Mathlib.Omega.{arith}
 use lib.Dec.{eqb}
@@ -16,7 +16,7 @@ use Rattle.table.specs.Bytes.{header}
 use Rattle.forest.specs.declared.operands.Operands.{Operands}
 use Rattle.forest.specs.declared.operands.Operands.the-variants.{Leaf, One, Two, Three}
 use Rattle.forest.specs.Forest.{howOften, over, operandsOf, expressionsOf, uses, useRule}
-use Rattle.forest.specs.Counting.{listed, Counted, Counters, countRule}
+use Rattle.forest.specs.Counting.{listed, AllBelow, Counted, Counters, countRule}
 
 -- ------------------------------------------------------------------------------------------------
 -- How often a number stands in a list
@@ -79,7 +79,7 @@ pub none-yet : {named : ℕ → List ℕ} {m : ℕ} {first : List ℕ} → Count
 unfolding over
 none-yet {m = m} h = record { counted = counted-none; most = counters-on (m + 3 * 0) h counted-none (omega arith) }
 
-pub one-more :
+one-more :
     {named : ℕ → List ℕ} {m : ℕ} {first a b : List ℕ} (i : ℕ) (o : Operands) → SoFar named m first a i → Counted a b (listed o)
     → listed o ≡ named i → SoFar named m first b (i + 1)
 unfolding over
@@ -88,6 +88,23 @@ one-more {named} {m} {first} {a} {b} i o so c is =
     record {
       counted = rw (add-one i, over, ← is) (counted-then (so .counted) c);
       most = counters-on (m + 3 * (i + 1)) (so .most) c (omega arith);
+    }
+
+-- a turn of the loop: what it asks to note the operands o of record i, and what is counted then
+pub record Turn (named : ℕ → List ℕ) (m : ℕ) (first counts : List ℕ) (i : ℕ) (o : Operands) : Type 0 where
+  pub asks : AllBelow (length counts) (listed o) × Counters (2 ^ 16 - 4) counts
+  pub on : {after : List ℕ} → Counted counts after (listed o) → SoFar named m first after (i + 1)
+
+pub turn :
+    {named : ℕ → List ℕ} {m : ℕ} {first counts : List ℕ} {i : ℕ} (o : Operands) → SoFar named m first counts i → listed o ≡ named i
+    → AllBelow (length first) (listed o) → m + 3 * i ≤ 2 ^ 16 - 4 → Turn named m first counts i o
+turn {i = i} o so is below small =
+    record {
+      asks = (
+        subst (λ (n : ℕ). AllBelow n (listed o)) (sym (so .counted .long)) below,
+        counters-on (2 ^ 16 - 4) (so .most) counted-none (omega arith),
+      );
+      on = λ c. one-more i o so c is;
     }
 
 pub all-counted : {named : ℕ → List ℕ} {m : ℕ} {first counts : List ℕ} {i n : ℕ} → SoFar named m first counts i → i ≡ n

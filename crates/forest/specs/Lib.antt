@@ -1,4 +1,3 @@
 pub mod Counting
 pub mod Ends
 pub mod Forest
-pub mod Scoping

@@ -7,12 +7,13 @@ ghost use Rattle.base.specs.Refusals.{refusal};
 ghost use Rattle.table.specs.Records.{Framed, RecordsHold};
 ghost use Rattle.forest.specs.Forest.{largest, depthRule};
 ghost use Rattle.forest.specs.Counting.{listed, AllBelow};
-use crate::MOST_EXPRESSIONS;
 use crate::operands;
 use crate::operands::Operands;
 use base::Answer;
+use base::codes;
 use table::Header;
 use table::bytes;
+use table::framing::MOST_EXPRESSIONS;
 
 const MOST_DEPTH: u16 = 64;
 
@@ -59,7 +60,7 @@ fn depths_in(s: &[u8], h: Header, depths: &mut [u16]) -> Answer
     while i < n {
         let d = deepest(depths, operands::of_expression(bytes::expression(s, h, i)));
         if MOST_DEPTH <= d {
-            return Answer::Refused(9, i as u32);
+            return Answer::Refused(codes::DEPTH, i as u32);
         }
         depths[i] = d + 1;
         i += 1;
@@ -81,6 +82,6 @@ pub fn depths_ok(s: &[u8], h: Header) -> Answer
         let mut depths = [0u16; 1024];
         return depths_in(s, h, &mut depths[..]);
     }
-    let mut depths = [0u16; MOST_EXPRESSIONS];
+    let mut depths = [0u16; MOST_EXPRESSIONS as usize];
     depths_in(s, h, &mut depths[..])
 }

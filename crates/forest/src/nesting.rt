@@ -8,6 +8,7 @@ ghost use Rattle.table.specs.Records.{Framed, RecordsHold};
 ghost use Rattle.forest.specs.Ends.{Left};
 ghost use Rattle.forest.specs.Forest.{nestingRule};
 use base::Answer;
+use base::codes;
 use blocks::bodies::second_end;
 use table::Header;
 
@@ -47,7 +48,7 @@ pub fn nestings_ok(s: &[u8], h: Header) -> Answer
         let around = left(&ends[..], kept, i);
         let nesting = around + 1;
         if MOST_NESTING < nesting {
-            return Answer::Refused(10, i as u32);
+            return Answer::Refused(codes::NESTING, i as u32);
         }
         ends[around] = second_end(s, h, i) as u16;
         kept = nesting;

@@ -7,12 +7,13 @@ ghost use Rattle.base.specs.Refusals.{refusal};
 ghost use Rattle.table.specs.Records.{Framed, RecordsHold, mostExpressions};
 ghost use Rattle.forest.specs.Forest.{over, operandsOf, expressionsOf, useRule};
 ghost use Rattle.forest.specs.Counting.{listed, AllBelow, Counted, Counters, countRule};
-use crate::MOST_EXPRESSIONS;
 use crate::operands;
 use crate::operands::Operands;
 use base::Answer;
+use base::codes;
 use table::Header;
 use table::bytes;
+use table::framing::MOST_EXPRESSIONS;
 
 // One more use of an expression, where every counter has room for it.
 fn note(counts: &mut [u16], k: u32)
@@ -90,7 +91,7 @@ fn lowest(h: Header, counts: &[u16]) -> Answer
     let mut i = 0;
     while i < n {
         if counts[i] != 1 {
-            return Answer::Refused(8, i as u32);
+            return Answer::Refused(codes::USES, i as u32);
         }
         i += 1;
     }
@@ -124,6 +125,6 @@ pub fn uses_once(s: &[u8], h: Header) -> Answer
         let mut counts = [0u16; 1024];
         return uses_in(s, h, &mut counts[..]);
     }
-    let mut counts = [0u16; MOST_EXPRESSIONS];
+    let mut counts = [0u16; MOST_EXPRESSIONS as usize];
     uses_in(s, h, &mut counts[..])
 }

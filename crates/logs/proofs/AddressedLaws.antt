@@ -8,7 +8,7 @@ use Rattle.value.specs.declared.ValueType.the-variants.{Imm, Mem}
 use Rattle.value.specs.declared.Value.{Value}
 use Rattle.value.specs.declared.Value.the-variants.{Word, Memory}
 use Rattle.value.specs.Values.{Sound, Yields, typeOf, size}
-use Rattle.table.proofs.View.{SizeOk}
+use Rattle.table.specs.Asked.{SizeOk}
 use Rattle.memory.specs.Log.{Log}
 use Rattle.memory.specs.Access.{load}
 use Rattle.memory.proofs.AccessKeeps.{has-load}

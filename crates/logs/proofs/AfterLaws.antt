@@ -8,8 +8,8 @@ use lib.ListN.{length}
 use Rattle.value.specs.declared.ValueType.{ValueType}
 use Rattle.value.specs.declared.ValueType.the-variants.{Imm, Mem}
 use Rattle.value.specs.declared.Value.{Value}
-use Rattle.table.proofs.View.{SizeOk}
-use Rattle.memory.specs.Log.{Log, entrySize, entries, holding}
+use Rattle.table.specs.Asked.{SizeOk}
+use Rattle.memory.specs.Log.{Log, entrySize, entries, holding, roomIn}
 use Rattle.memory.specs.Access as Access
 use Rattle.memory.specs.Typed.{Has}
 use Rattle.memory.proofs.AccessKeeps.{Stores, stores, fills, store-keeps}
@@ -18,7 +18,7 @@ use Rattle.memory.proofs.LogRules.{entries-ok}
 use Rattle.logs.specs.declared.store.Stored.{Stored}
 use Rattle.logs.specs.declared.store.Stored.the-variants.{Done, Full}
 use Rattle.logs.specs.Held.{Holds}
-use Rattle.logs.specs.Storing.{Leaves, answer, logIn, roomOf}
+use Rattle.logs.specs.Storing.{Leaves, answer, logIn}
 use Rattle.logs.proofs.HoldingLaws.{holding-holds}
 
 -- how many entries the log has after a store
@@ -53,9 +53,9 @@ after l h (fills {M = M} on k) =
 pub store-after :
     {l m : List ℕ} {count z w : ℕ} {r : Stored} (big : Bool) (c a v : Value) → Holds l count → SizeOk z
     → Has (entries l count) c (Mem w) → Has (entries l count) a (Imm w)
-    → Leaves l (Access.store (roomOf l) (entries l count) z big c a v) r m → After (entries l count) (Mem w) r m
+    → Leaves l (Access.store (roomIn l) (entries l count) z big c a v) r m → After (entries l count) (Mem w) r m
 store-after {l} {m} {count} big c a v h size hc ha left =
     let room = h .room in
     let n = length-entries l count in
-    let keeps = store-keeps {room = roomOf l} big c a v size (record { ok = entries-ok l count (h .rules); most = omega arith }) hc ha in
+    let keeps = store-keeps {room = roomIn l} big c a v size (record { ok = entries-ok l count (h .rules); most = omega arith }) hc ha in
     rw (left .is, left .holds) (after l (omega arith) keeps)

@@ -10,7 +10,7 @@ use lib.ListN.{length, getD, getD-replicate}
 use lib.Pow.{shr-shr}
 use Rattle.value.specs.declared.ValueType.{ValueType}
 use Rattle.value.specs.declared.Value.the-variants.{Word, Unknown, Memory}
-use Rattle.table.proofs.View.{SizeOk}
+use Rattle.table.specs.Asked.{SizeOk}
 use Rattle.memory.specs.Log.{unknownByte}
 use Rattle.memory.specs.Access.{inOrder, bytesOf, bytesIn}
 use Rattle.memory.proofs.AccessKeeps.{length-bytesIn}

@@ -4,8 +4,8 @@ use mathlib.Core.List.{List, _∷_}
 use Prim.Native.Nat.{ℕ, zero, suc, _+_, _-_, _*_, _≤_, _<_}
 use native.Mathlib.Omega.{arith}
 use native.Mathlib.Decide.{decLt}
-use lib.ListN.{getD}
 use borrow.Author.Tests.{eq-eqb, ne-eqb}
+use Rattle.memory.specs.declared.Entry.{Entry}
 use Rattle.memory.specs.Log.{Cell, entrySize, unknownByte, entryAt, entries, chain}
 use Rattle.memory.specs.Access.{byteAt}
 use Rattle.memory.proofs.LogLaws.{_⊑_, stay, more, length-entries, chain-newest, chain-zero, chain-keeps}
@@ -27,27 +27,27 @@ pub chain-of : (l : List ℕ) (n m head : ℕ) → n ≤ m → head ≤ n → ch
 chain-of l n m head h k = chain-keeps head (omega (arith, length-entries l n)) (entries-on l n m h)
 
 cellAt : List ℕ → ℕ → Cell
-cellAt l n = record { address = getD l (entrySize * n + 2) 0; byte = getD l (entrySize * n + 3) 0 }
+cellAt l n = let e = entryAt l (entrySize * n) in record { address = e .address; byte = e .byte }
 
-newest-chain : (l : List ℕ) (n : ℕ) → chain (entries l (suc n)) (suc n) ≡ cellAt l n ∷ chain (entries l n) (getD l (entrySize * n) 0)
-unfolding entries entryAt cellAt
+newest-chain : (l : List ℕ) (n : ℕ) → chain (entries l (suc n)) (suc n) ≡ cellAt l n ∷ chain (entries l n) (entryAt l (entrySize * n) .previous)
+unfolding entries cellAt
 newest-chain l n =
     ap (λ (k : ℕ). chain (entries l (suc n)) (suc k)) (sym (length-entries l n)) ∙ chain-newest (entryAt l (entrySize * n)) (entries l n)
 
 module _ {l : List ℕ} {count : ℕ} (h : Holds l count) where
-  previous-first : (n : ℕ) → n < count → getD l (entrySize * n) 0 ≤ n
-  unfolding entries entryAt
+  previous-first : (n : ℕ) → n < count → entryAt l (entrySize * n) .previous ≤ n
+  unfolding entries
   previous-first n k =
       let e = length-entries l n in
       let f = follows (entryAt l (entrySize * n)) (entries l n) (h .rules (suc n) k) .link .most in
       omega arith
 
   -- the chain of an entry: the entry itself, then its previous entry's chain
-  chain-at : (n : ℕ) → n < count → chain (entries l count) (suc n) ≡ cellAt l n ∷ chain (entries l count) (getD l (entrySize * n) 0)
+  chain-at : (n : ℕ) → n < count → chain (entries l count) (suc n) ≡ cellAt l n ∷ chain (entries l count) (entryAt l (entrySize * n) .previous)
   chain-at n k =
       chain-of l (suc n) count (suc n) k (omega arith)
       ∙ newest-chain l n
-      ∙ ap (λ (older : List Cell). cellAt l n ∷ older) (sym (chain-of l n count (getD l (entrySize * n) 0) (omega arith) (previous-first n k)))
+      ∙ ap (λ (older : List Cell). cellAt l n ∷ older) (sym (chain-of l n count (entryAt l (entrySize * n) .previous) (omega arith) (previous-first n k)))
 
   -- a walk that has come to an entry, or to none
   module _ (at a : ℕ) where
@@ -55,18 +55,19 @@ module _ {l : List ℕ} {count : ℕ} (h : Holds l count) where
     unfolding byteAt
     at-none e = rw (e, chain-zero (entries l count))
 
-    module _ (some : at ≡ 0 → ⊥) (most : at ≤ count) where
-      here : chain (entries l count) at ≡ cellAt l (at - 1) ∷ chain (entries l count) (getD l (entrySize * (at - 1)) 0)
-      here = let e : suc (at - 1) ≡ at = omega arith in ap (chain (entries l count)) (sym e) ∙ chain-at (at - 1) (omega arith)
+    -- e is the entry
+    module _ (some : at ≡ 0 → ⊥) (most : at ≤ count) {e : Entry} (is : e ≡ entryAt l (entrySize * (at - 1))) where
+      here : chain (entries l count) at ≡ record { address = e .address; byte = e .byte } ∷ chain (entries l count) (e .previous)
+      unfolding cellAt
+      here = let n : suc (at - 1) ≡ at = omega arith in rw is (ap (chain (entries l count)) (sym n) ∙ chain-at (at - 1) (omega arith))
 
-      pub previous-lower : getD l (entrySize * (at - 1)) 0 < at
-      previous-lower = let p = previous-first (at - 1) (omega arith) in omega arith
+      pub previous-lower : e .previous < at
+      previous-lower = let p = previous-first (at - 1) (omega arith) in rw is (omega arith)
 
-      pub at-address : getD l (entrySize * (at - 1) + 2) 0 ≡ a → byteAt (chain (entries l count) at) a ≡ getD l (entrySize * (at - 1) + 3) 0
-      unfolding byteAt cellAt
-      at-address e = rw (here, byteAt, eq-eqb _ _ e)
+      pub at-address : e .address ≡ a → byteAt (chain (entries l count) at) a ≡ e .byte
+      unfolding byteAt
+      at-address same = rw (here, byteAt, eq-eqb _ _ same)
 
-      pub at-other : (getD l (entrySize * (at - 1) + 2) 0 ≡ a → ⊥)
-          → byteAt (chain (entries l count) at) a ≡ byteAt (chain (entries l count) (getD l (entrySize * (at - 1)) 0)) a
-      unfolding byteAt cellAt
-      at-other n = rw (here, byteAt, ne-eqb _ _ n)
+      pub at-other : (e .address ≡ a → ⊥) → byteAt (chain (entries l count) at) a ≡ byteAt (chain (entries l count) (e .previous)) a
+      unfolding byteAt
+      at-other other = rw (here, byteAt, ne-eqb _ _ other)

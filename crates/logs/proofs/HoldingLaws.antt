@@ -5,35 +5,37 @@ use Prim.Native.Nat.{ℕ, zero, suc, _+_, _-_, _*_, _≤_, _<_}
 use native.Mathlib.Omega.{arith}
 use lib.ListN.{length, getD, take, drop, take-append-drop}
 use lib.Seq.{sets, sets-eq, take-add, take-at, drop-cons, drop-drop, drop-append-add}
-use Rattle.memory.specs.Log.{Entry, Log, entrySize, entryAt, entries, numbersOf, holding}
+use Rattle.memory.specs.declared.Entry.{Entry}
+use Rattle.memory.specs.Log.{Log, entrySize, entryAt, entries, fieldsOf, numbersOf, holding}
 use Rattle.memory.proofs.LogLaws.{length-numbersOf, length-holding, length-entries, entries-holding}
-use Rattle.memory.proofs.LogRules.{LogOk, entries-rules}
+use Rattle.memory.specs.Room.{LogOk}
+use Rattle.memory.proofs.LogRules.{entries-rules}
 use Rattle.logs.specs.Held.{Holds}
 
--- four numbers more from the front
-take-four : (l : List ℕ) (p : ℕ) → p + 4 ≤ length l
-    → take (p + 4) l ≡ take p l ++ (getD l p 0 ∷ getD l (p + 1) 0 ∷ getD l (p + 2) 0 ∷ getD l (p + 3) 0 ∷ [])
-take-four l p h =
-    let four : drop p l ≡ getD l p 0 ∷ getD l (p + 1) 0 ∷ getD l (p + 2) 0 ∷ getD l (p + 3) 0 ∷ drop (p + 4) l =
+-- one entry more from the front
+take-entry : (l : List ℕ) (p : ℕ) → p + entrySize ≤ length l → take (p + entrySize) l ≡ take p l ++ fieldsOf (entryAt l p)
+unfolding entryAt
+take-entry l p h =
+    let numbers : drop p l ≡ fieldsOf (entryAt l p) ++ drop (p + entrySize) l =
     one p (p + 1) (omega arith) (omega arith)
     ∙ ap (λ (m : List ℕ). getD l p 0 ∷ m)
     (one (p + 1) (p + 2) (omega arith) (omega arith)
     ∙ ap (λ (m : List ℕ). getD l (p + 1) 0 ∷ m)
     (one (p + 2) (p + 3) (omega arith) (omega arith)
-    ∙ ap (λ (m : List ℕ). getD l (p + 2) 0 ∷ m) (one (p + 3) (p + 4) (omega arith) (omega arith)))) in
-    take-add p 4 l ∙ ap (λ (m : List ℕ). take p l ++ take 4 m) four
+    ∙ ap (λ (m : List ℕ). getD l (p + 2) 0 ∷ m) (one (p + 3) (p + entrySize) (omega arith) (omega arith)))) in
+    take-add p entrySize l ∙ ap (λ (m : List ℕ). take p l ++ take entrySize m) numbers
   where
     one : (q r : ℕ) → q < length l → suc q ≡ r → drop q l ≡ getD l q 0 ∷ drop r l
     one q r k e = drop-cons l q 0 k ∙ ap (λ (n : ℕ). getD l q 0 ∷ drop n l) e
 
 numbersOf-entries : (l : List ℕ) (n : ℕ) → entrySize * n ≤ length l → numbersOf (entries l n) ≡ take (entrySize * n) l
-unfolding numbersOf entries entryAt
+unfolding numbersOf entries
 numbersOf-entries l zero h = refl
 numbersOf-entries l (suc n) h =
-    let e : entrySize * suc n ≡ entrySize * n + 4 = omega arith in
-    ap (λ (front : List ℕ). front ++ (getD l (entrySize * n) 0 ∷ getD l (entrySize * n + 1) 0 ∷ getD l (entrySize * n + 2) 0 ∷ getD l (entrySize * n + 3) 0 ∷ []))
+    let e : entrySize * suc n ≡ entrySize * n + entrySize = omega arith in
+    ap (λ (front : List ℕ). front ++ fieldsOf (entryAt l (entrySize * n)))
     (numbersOf-entries l n (omega arith))
-    ∙ sym (take-four l (entrySize * n) (omega arith))
+    ∙ sym (take-entry l (entrySize * n) (omega arith))
     ∙ ap (λ (k : ℕ). take k l) (sym e)
 
 -- a buffer holds the log that it has
@@ -45,18 +47,18 @@ holding-entries l n h =
     ∙ take-append-drop (entrySize * n) l
 
 -- an entry written behind the others
-pub holding-newer : (l : List ℕ) (L : Log) (e : Entry) → entrySize * length L + 4 ≤ length l
-    → sets (holding l L) (entrySize * length L) (e .previous ∷ e .width ∷ e .address ∷ e .byte ∷ []) ≡ holding l (e ∷ L)
+pub holding-newer : (l : List ℕ) (L : Log) (e : Entry) → entrySize * length L + entrySize ≤ length l
+    → sets (holding l L) (entrySize * length L) (fieldsOf e) ≡ holding l (e ∷ L)
 unfolding holding numbersOf
 holding-newer l L e h =
-    let numbers = e .previous ∷ e .width ∷ e .address ∷ e .byte ∷ [] in
+    let numbers = fieldsOf e in
     let p = entrySize * length L in
     let n = length-numbersOf L in
     let long = length-holding l L (omega arith) in
-    let on : p + 4 ≡ length (numbersOf L) + 4 = omega arith in
-    let next : p + 4 ≡ entrySize * suc (length L) = omega arith in
+    let on : p + entrySize ≡ length (numbersOf L) + entrySize = omega arith in
+    let next : p + entrySize ≡ entrySize * suc (length L) = omega arith in
     sets-eq numbers (holding l L) p (omega arith)
-    ∙ ap (λ (front : List ℕ). front ++ numbers ++ drop (p + 4) (holding l L)) (take-at (numbersOf L) (drop p l) p n)
+    ∙ ap (λ (front : List ℕ). front ++ numbers ++ drop (p + entrySize) (holding l L)) (take-at (numbersOf L) (drop p l) p n)
     ∙ ap (λ (back : List ℕ). numbersOf L ++ numbers ++ back)
     (ap (λ (k : ℕ). drop k (holding l L)) on
     ∙ drop-append-add (numbersOf L) (drop p l) 4

@@ -1,7 +1,8 @@
 -- No second answer fits: the contract of each public function leaves one result. Assumes nothing.
 use contract.Lifetimes.{Lfts}
 use denote.Ref.{now}
-use Rattle.base.proofs.Unique.{OneAnswer, OneOutcome, is-unique}
+use Rattle.base.specs.OneAnswer.{OneAnswer, OneOutcome}
+use Rattle.base.proofs.Unique.{is-unique}
 use Rattle.word.proofs.Unique.{gives-unique}
 use Rattle.logs.proofs as logs
 

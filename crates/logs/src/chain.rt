@@ -4,9 +4,8 @@ ghost use Prim.Native.Nat.{_≤_};
 ghost use Rattle.memory.specs.Log.{entries, chain};
 ghost use Rattle.memory.specs.Access.{byteAt};
 ghost use Rattle.logs.specs.Held.{Holds};
-
-// A byte of which nothing is known.
-pub const UNKNOWN_BYTE: u64 = 256;
+use memory::UNKNOWN_BYTE;
+use memory::entry_at;
 
 // The byte at an address in the chain from an entry of the log, or from none: that of the first entry with the address, else unknown.
 // The count is how many entries the log has.
@@ -20,10 +19,10 @@ pub fn byte_at(log: &[u64], count: usize, head: u64, address: u64) -> u64
         if at == 0 {
             break UNKNOWN_BYTE;
         }
-        let entry = 4 * (at - 1);
-        if log[entry + 2] == address {
-            break log[entry + 3];
+        let entry = entry_at(log, at);
+        if entry.address == address {
+            break entry.byte;
         }
-        at = log[entry] as usize;
+        at = entry.previous as usize;
     }
 }

@@ -5,14 +5,14 @@ ghost use Rattle.word.specs.Words.{IsWord};
 ghost use Rattle.value.specs.declared.ValueType.{ValueType};
 ghost use Rattle.value.specs.declared.Value.{Value};
 ghost use Rattle.value.specs.Values.{Yields};
-ghost use Rattle.table.proofs.View.{SizeOk};
+ghost use Rattle.table.specs.Asked.{SizeOk};
 ghost use Rattle.memory.specs.Log.{entries, unknownByte};
 ghost use Rattle.memory.specs.Access as Access;
 ghost use Rattle.logs.specs.Held.{Holds, Addressed};
 ghost use Rattle.logs.specs.Joining.{Joins};
 use crate::addresses::above;
-use crate::chain::UNKNOWN_BYTE;
 use crate::chain::byte_at;
+use memory::UNKNOWN_BYTE;
 use value::Value;
 use value::ValueType;
 
@@ -50,7 +50,7 @@ fn word_at(log: &[u64], count: usize, z: u32, big: bool, w: u32, head: u64, a: u
     Value::Word(z, v)
 }
 
-// A load of z bits from a memory at an address.
+// A load of z bits from a memory at an address: unknown where a byte of it, the address or the memory is.
 pub fn load(log: &[u64], count: usize, z: u32, big: bool, memory: Value, address: Value) -> Value
     requires { ⌜ Holds (now log) count ⌝ }
     requires { ⌜ SizeOk z ⌝ }

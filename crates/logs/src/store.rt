@@ -1,17 +1,17 @@
 // Stores: an entry a byte, each the previous of the next, from an address up.
 ghost use mathlib.Core.Path.{_≡_};
-ghost use mathlib.Core.List.{[], _∷_};
-ghost use Prim.Native.Nat.{_+_, _*_, _/_, _≤_, _<_};
+ghost use Prim.Native.Nat.{_*_, _/_, _≤_, _<_};
 ghost use lib.ListN.{length, getD};
-ghost use lib.Seq.{sets};
 ghost use Rattle.word.specs.Words.{IsWord};
-ghost use Rattle.table.proofs.View.{SizeOk};
-ghost use Rattle.memory.specs.Log.{entrySize, entries};
+ghost use Rattle.table.specs.Asked.{SizeOk};
+ghost use Rattle.memory.specs.Log.{entrySize, entries, roomIn};
 ghost use Rattle.memory.specs.Access as Access;
 ghost use Rattle.logs.specs.Held.{Holds, Addressed};
-ghost use Rattle.logs.specs.Storing.{Leaves, roomOf};
+ghost use Rattle.logs.specs.Storing.{Leaves};
 use crate::addresses::above;
-use crate::chain::UNKNOWN_BYTE;
+use memory::ENTRY_SIZE;
+use memory::UNKNOWN_BYTE;
+use memory::write_entry;
 use value::Value;
 
 // What a store gives.
@@ -41,18 +41,6 @@ fn byte_of(value: Value, z: u32, big: bool, i: u32) -> u64
     }
 }
 
-// One entry behind those that the log has.
-fn write(log: &mut [u64], count: usize, previous: u64, width: u64, address: u64, byte: u64)
-    requires { ⌜ entrySize * count + 4 ≤ length (now log) ⌝ }
-    ensures { λ r. ⌜ now (log .exit) ≡ sets (now (log .entry)) (entrySize * count) (previous ∷ width ∷ address ∷ byte ∷ []) ⌝ }
-{
-    let at = 4 * count;
-    log[at] = previous;
-    log[at + 1] = width;
-    log[at + 2] = address;
-    log[at + 3] = byte;
-}
-
 // The bytes of a value appended to the chain from an entry, or from none.
 fn append(
     log: &mut [u64],
@@ -67,9 +55,9 @@ fn append(
     requires { ⌜ entrySize * count ≤ length (now log) ⌝ }
     requires { ⌜ SizeOk z ⌝ }
     requires { ⌜ IsWord w a ⌝ }
-    ensures { λ r. ⌜ Leaves (now (log .entry)) (Access.append (roomOf (now (log .entry))) w (Access.bytesIn z big value) head a (entries (now (log .entry)) count)) r (now (log .exit)) ⌝ }
+    ensures { λ r. ⌜ Leaves (now (log .entry)) (Access.append (roomIn (now (log .entry))) w (Access.bytesIn z big value) head a (entries (now (log .entry)) count)) r (now (log .exit)) ⌝ }
 {
-    let room = log.len() / 4;
+    let room = log.len() / ENTRY_SIZE;
     let n = z / 8;
     let mut used = count;
     let mut newest = head;
@@ -79,7 +67,7 @@ fn append(
         if room <= used {
             return Stored::Full(used);
         }
-        write(log, used, newest, w as u64, at, byte_of(value, z, big, i));
+        write_entry(log, used, newest, w as u64, at, byte_of(value, z, big, i));
         used += 1;
         newest = used as u64;
         at = above(w, at);
@@ -88,7 +76,8 @@ fn append(
     Stored::Done(Value::Memory(w, newest), used)
 }
 
-// A store of a value's z bits to a memory at an address. At an unknown address nothing is appended and the memory is unknown.
+// A store of a value's z bits to a memory at an address. At an unknown address nothing is appended and the memory is unknown. Where
+// the log has no room for all bytes, those that fit are appended.
 pub fn store(
     log: &mut [u64],
     count: usize,
@@ -101,7 +90,7 @@ pub fn store(
     requires { ⌜ Holds (now log) count ⌝ }
     requires { ⌜ SizeOk z ⌝ }
     requires { ⌜ Addressed (entries (now log) count) memory address ⌝ }
-    ensures { λ r. ⌜ Leaves (now (log .entry)) (Access.store (roomOf (now (log .entry))) (entries (now (log .entry)) count) z big memory address value) r (now (log .exit)) ⌝ }
+    ensures { λ r. ⌜ Leaves (now (log .entry)) (Access.store (roomIn (now (log .entry))) (entries (now (log .entry)) count) z big memory address value) r (now (log .exit)) ⌝ }
 {
     match address {
         Value::Word(w, a) => append(log, count, z, big, w, head_of(memory), a, value),

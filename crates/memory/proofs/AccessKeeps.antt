@@ -19,13 +19,15 @@ use Rattle.value.specs.declared.Value.{Value}
 use Rattle.value.specs.declared.Value.the-variants.{Word, Unknown, Memory}
 use Rattle.value.specs.Values.{Sound, typeOf}
 use Rattle.value.proofs.ValueLaws.{type-ok}
-use Rattle.table.proofs.View.{SizeOk}
-use Rattle.memory.specs.Log.{Entry, Log, Cell, chain, unknownByte}
+use Rattle.table.specs.Asked.{SizeOk}
+use Rattle.memory.specs.declared.Entry.{Entry}
+use Rattle.memory.specs.Log.{Log, Cell, chain, unknownByte}
 use Rattle.memory.specs.Access.{succ, inOrder, bytesFrom, join, loaded, load, Stored, stored, full, append, bytesOf, bytesIn, headOf, store}
 use Rattle.memory.proofs.AccessLaws.{length-inOrder}
 use Rattle.memory.proofs.LogLaws.{_⊑_, stay, more, ⊑-trans}
 use Rattle.memory.specs.Typed.{Link}
-use Rattle.memory.proofs.LogRules.{Follows, InRoom, in-room-newer, newest-link}
+use Rattle.memory.specs.Room.{Follows, InRoom}
+use Rattle.memory.proofs.LogRules.{in-room-newer, newest-link}
 use Rattle.memory.specs.Typed.{Has}
 use Rattle.memory.proofs.HasLaws.{has-imm}
 

@@ -7,7 +7,8 @@ use lib.Dec.{ltb}
 use lib.ListN.{length, length-reverse, length-replicate}
 use Rattle.value.specs.declared.Value.{Value}
 use Rattle.value.specs.declared.Value.the-variants.{Word, Unknown, Memory}
-use Rattle.memory.specs.Log.{Log, Entry, unknownByte}
+use Rattle.memory.specs.declared.Entry.{Entry}
+use Rattle.memory.specs.Log.{Log, unknownByte}
 use Rattle.memory.specs.Access.{full, append, bytesIn, bytesOf, inOrder, succ}
 
 -- ------------------------------------------------------------------------------------------------

@@ -4,3 +4,4 @@ pub mod HasLaws
 pub mod LogLaws
 pub mod LogRules
 pub mod Slips
+pub mod Unique

@@ -9,7 +9,8 @@ use lib.Dec.{eqb, eqb·zero-suc}
 use lib.ListN.{length, getD, drop, length-append, length-drop}
 use lib.Seq.{getD-append-add, getD-append-seam}
 use borrow.Author.Tests.{eq-eqb, ne-eqb, eqb-true, eqb-false}
-use Rattle.memory.specs.Log.{Entry, Log, chain, entries, entryAt, widthAt, numbersOf, holding, entrySize}
+use Rattle.memory.specs.declared.Entry.{Entry}
+use Rattle.memory.specs.Log.{Log, chain, entries, entryAt, widthAt, fieldsOf, numbersOf, holding, entrySize}
 
 -- ------------------------------------------------------------------------------------------------
 -- A log that went on
@@ -57,14 +58,14 @@ length-entries l zero = refl
 length-entries l (suc n) = ap suc (length-entries l n)
 
 -- the width of an entry of the first n stands in the buffer
-pub width-in-buffer : (l : List ℕ) (n i : ℕ) → i < n → widthAt (entries l n) (suc i) ≡ getD l (entrySize * i + 1) 0
-unfolding entries entryAt widthAt
+pub width-in-buffer : (l : List ℕ) (n i : ℕ) → i < n → widthAt (entries l n) (suc i) ≡ entryAt l (entrySize * i) .width
+unfolding entries widthAt
 width-in-buffer l zero i h = absurd (not-suc-le-zero h)
 width-in-buffer l (suc n) i h = rw (length-entries l n, widthAt) (go (eqb (suc i) (suc n)) refl (width-in-buffer l n i))
   where
-    go : (t : Bool) → eqb (suc i) (suc n) ≡ t → (i < n → widthAt (entries l n) (suc i) ≡ getD l (entrySize * i + 1) 0)
-        → elim t [ true ↦ getD l (entrySize * n + 1) 0 | false ↦ widthAt (entries l n) (suc i) ] ≡ getD l (entrySize * i + 1) 0
-    go true e older = ap (λ (k : ℕ). getD l (entrySize * k + 1) 0) (let d = eqb-true (suc i) (suc n) e in omega arith)
+    go : (t : Bool) → eqb (suc i) (suc n) ≡ t → (i < n → widthAt (entries l n) (suc i) ≡ entryAt l (entrySize * i) .width)
+        → elim t [ true ↦ entryAt l (entrySize * n) .width | false ↦ widthAt (entries l n) (suc i) ] ≡ entryAt l (entrySize * i) .width
+    go true e older = ap (λ (k : ℕ). entryAt l (entrySize * k) .width) (let d = eqb-true (suc i) (suc n) e in omega arith)
     go false e older = older (let d = eqb-false (suc i) (suc n) e in omega arith)
 
 pub length-numbersOf : (L : Log) → length (numbersOf L) ≡ entrySize * length L
@@ -74,19 +75,17 @@ length-numbersOf (e ∷ L) = let h = length-numbersOf L in simp length-append (o
 
 -- the entry whose numbers stand behind a log's
 entryAt-back : (L : Log) (e : Entry) (rest : List ℕ)
-    → entryAt (numbersOf L ++ (e .previous ∷ e .width ∷ e .address ∷ e .byte ∷ rest)) (entrySize * length L) ≡ e
+    → entryAt (numbersOf L ++ (fieldsOf e ++ rest)) (entrySize * length L) ≡ e
 unfolding entryAt
 entryAt-back L e rest =
-    let numbers = e .previous ∷ e .width ∷ e .address ∷ e .byte ∷ rest in
-    let at = getD-append-add (numbersOf L) numbers in
+    let at = getD-append-add (numbersOf L) (fieldsOf e ++ rest) in
     rw (← (length-numbersOf L), getD-append-seam (numbersOf L) (e .previous), at 1 0, at 2 0, at 3 0)
 
 entries-numbersOf : (L : Log) (rest : List ℕ) → entries (numbersOf L ++ rest) (length L) ≡ L
 unfolding entries numbersOf
 entries-numbersOf [] rest = refl
 entries-numbersOf (e ∷ L) rest =
-    let numbers = e .previous ∷ e .width ∷ e .address ∷ e .byte ∷ [] in
-    rw (append-assoc (numbersOf L) numbers rest) λ i. entryAt-back L e rest i ∷ entries-numbersOf L (numbers ++ rest) i
+    rw (append-assoc (numbersOf L) (fieldsOf e) rest) λ i. entryAt-back L e rest i ∷ entries-numbersOf L (fieldsOf e ++ rest) i
 
 -- what is put into a buffer is read back
 pub entries-holding : (l : List ℕ) (L : Log) → entries (holding l L) (length L) ≡ L

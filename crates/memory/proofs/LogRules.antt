@@ -1,37 +1,18 @@
 -- Logs that keep their rules, and what stays of their entries when they go on. Assumes nothing.
 use mathlib.Core.Path.{_≡_, refl, _∙_}
 use mathlib.Core.Bool.{Bool, true, false, _||_, and-eq-true-iff}
-use mathlib.Core.List.{List, [], _∷_}
-use Prim.Native.Nat.{ℕ, zero, suc, _^_, _≤_, _<_}
+use mathlib.Core.List.{List, _∷_}
+use Prim.Native.Nat.{ℕ, zero, suc, _≤_, _<_}
 use native.Mathlib.Omega.{arith}
 use lib.Dec.{leb, eqb}
 use lib.ListN.{length}
 use borrow.Author.Tests.{leb-true, ltb-true, eqb-true, eqb-false, le-leb, lt-ltb, eq-eqb, ne-eqb}
 use Rattle.base.proofs.BoolLaws.{and-both}
-use Rattle.word.specs.Words.{Width}
-use Rattle.memory.specs.Log.{Entry, Log, unknownByte, entries, widthAt, newestOk}
+use Rattle.memory.specs.declared.Entry.{Entry}
+use Rattle.memory.specs.Log.{Log, entries, widthAt, newestOk}
+use Rattle.memory.specs.Room.{Follows, LogOk, empty, newer, InRoom}
 use Rattle.memory.specs.Typed.{Link, Head}
 use Rattle.memory.proofs.LogLaws.{_⊑_, stay, more, ⊑-length}
-
--- ------------------------------------------------------------------------------------------------
--- The rules
-
--- what a new entry keeps
-pub record Follows (e : Entry) (L : Log) : Type 0 where
-  pub link : Link L (e .width) (e .previous)
-  pub width : Width (e .width)
-  pub address : e .address < 2 ^ e .width
-  pub byte : e .byte ≤ unknownByte
-
--- every entry keeps the log's rules
-pub data LogOk : Log → Type 0 where
-  empty : LogOk []
-  newer : {e : Entry} {L : Log} → Follows e L → LogOk L → LogOk (e ∷ L)
-
--- a log that keeps its rules, within its room
-pub record InRoom (room : ℕ) (L : Log) : Type 0 where
-  pub ok : LogOk L
-  pub most : length L ≤ room
 
 -- ------------------------------------------------------------------------------------------------
 -- Refusal 17 asks for no more and no less

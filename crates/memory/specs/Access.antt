@@ -1,4 +1,5 @@
--- Loads and stores. The names in capitals are rules of 002; `completed` marks where paper 01 completes them. Assumes nothing.
+-- Loads and stores. The names in capitals are rules of 002, whose public copy prints LOAD_WORD_BE as LOAL_BE; `completed` marks where paper 01
+-- completes them. Assumes nothing.
 use mathlib.Core.Bool.{Bool, true, false}
 use mathlib.Core.List.{List, [], _∷_, reverse}
 use mathlib.Core.Option.{Option, none, some}
@@ -29,7 +30,7 @@ unfoldable pub byteAt : List Cell → ℕ → ℕ
 byteAt [] a = unknownByte
 byteAt (c ∷ older) a = elim (eqb (c .address) a) [ true ↦ c .byte | false ↦ byteAt older a ]
 
--- LOAD_WORD_BE, LOAD_WORD_EL: n bytes from an address on
+-- LOAD_WORD_BE, LOAD_WORD_EL: n bytes from an address on, "at such a store's addresses"
 unfoldable pub bytesFrom : List Cell → ℕ → ℕ → ℕ → List ℕ
 unfolding byteAt
 bytesFrom cells w zero a = []
@@ -44,7 +45,8 @@ unfoldable pub loaded : ℕ → Option ℕ → Value
 loaded z none = Unknown (Imm z)
 loaded z (some v) = Word z v
 
--- a load of z bits; completed: "one unknown byte, an unknown address or unknown memory makes it unknown" (LOAD_UN_ADDR, LOAD_UN_MEM)
+-- a load of z bits; completed: "A wider load joins the bytes at such a store's addresses, in its order; one unknown byte, an unknown address or
+-- unknown memory makes it unknown" (LOAD_UN_ADDR, LOAD_UN_MEM)
 unfoldable pub load : Log → ℕ → Bool → Value → Value → Value
 unfolding loaded join inOrder bytesFrom chain
 load L z big (Memory w head) (Word v a) = loaded z (join (inOrder big (bytesFrom (chain L head) w (z / 8) a)))
@@ -61,7 +63,8 @@ pub data Stored : Type 0 where
   stored : Value → Log → Stored
   full : Log → Stored
 
--- "appends one entry a byte", each the previous of the next
+-- "appends one entry a byte, from that address upward modulo 2^width", each the previous of the next. "Its value is the chain that starts at the
+-- last entry." Entries are only added: "Log room isn't used again".
 unfoldable pub append : ℕ → ℕ → List ℕ → ℕ → ℕ → Log → Stored
 append room w [] head a L = stored (Memory w head) L
 append room w (b ∷ bytes) head a L =

@@ -1,3 +1,4 @@
 pub mod Access
 pub mod Log
+pub mod Room
 pub mod Typed

@@ -1,26 +1,25 @@
 -- "Memory is kept in a log." Its entries, their numbers in a buffer, and chains. Assumes nothing.
 use mathlib.Core.Bool.{Bool, true, false, _&&_, _||_}
 use mathlib.Core.List.{List, [], _∷_, _++_}
-use Prim.Native.Nat.{ℕ, zero, suc, _+_, _*_, _^_}
+use Prim.Native.Nat.{ℕ, zero, suc, _+_, _*_, _/_, _^_}
 use lib.Dec.{leb, ltb, eqb}
 use lib.ListN.{length, getD, drop}
 use Rattle.base.specs.Choice.{within}
+use Rattle.memory.specs.declared.Entry.{Entry}
 
--- "An entry is four 64-bit numbers: previous entry (0 or a lower number; entries count from 1), address width (1 to 64), address,
--- byte (0 to 255, or 256 unknown)."
-pub record Entry : Type 0 where
-  pub previous : ℕ
-  pub width : ℕ
-  pub address : ℕ
-  pub byte : ℕ
-
+-- "An entry is four 64-bit numbers: previous entry .., address width .., address, byte": `Entry` of src. Their limits are in `newestOk`.
 abbrev pub entrySize : ℕ
 entrySize = 4
 
+-- "256 unknown"
 abbrev pub unknownByte : ℕ
 unknownByte = 256
 
--- the newest entry first: the number of an entry is how many stand from it to the end
+-- how many entries a buffer has room for
+abbrev pub roomIn : List ℕ → ℕ
+roomIn l = length l / entrySize
+
+-- the newest entry first. "entries count from 1": the number of an entry is how many stand from it to the end
 abbrev pub Log : Type 0
 Log = List Entry
 
@@ -36,9 +35,13 @@ unfolding entryAt
 entries l zero = []
 entries l (suc n) = entryAt l (entrySize * n) ∷ entries l n
 
+-- an entry's numbers, in the order in which they stand in the buffer
+abbrev pub fieldsOf : Entry → List ℕ
+fieldsOf e = e .previous ∷ e .width ∷ e .address ∷ e .byte ∷ []
+
 unfoldable pub numbersOf : Log → List ℕ
 numbersOf [] = []
-numbersOf (e ∷ L) = numbersOf L ++ (e .previous ∷ e .width ∷ e .address ∷ e .byte ∷ [])
+numbersOf (e ∷ L) = numbersOf L ++ fieldsOf e
 
 -- a buffer that holds a log; "Log beyond the count given back is unchanged."
 unfoldable pub holding : List ℕ → Log → List ℕ
@@ -50,7 +53,8 @@ unfoldable pub widthAt : Log → ℕ → ℕ
 widthAt [] n = 0
 widthAt (e ∷ L) n = elim (eqb n (suc (length L))) [ true ↦ e .width | false ↦ widthAt L n ]
 
--- the newest entry; "A previous entry has the same address width, and the address is below 2^width."
+-- the newest entry keeps the limits: "previous entry (0 or a lower number ..), address width (1 to 64), address, byte (0 to 255, or 256
+-- unknown). A previous entry has the same address width, and the address is below 2^width."
 unfoldable pub newestOk : Log → Bool
 unfolding widthAt
 newestOk [] = true

@@ -1,7 +1,8 @@
 -- No second answer fits: the contract of each public function leaves one result, and one content of the log. Assumes nothing.
 use contract.Lifetimes.{Lfts}
 use denote.Ref.{now}
-use Rattle.base.proofs.Unique.{OneAnswer, OneOutcome, is-unique}
+use Rattle.base.specs.OneAnswer.{OneAnswer, OneOutcome}
+use Rattle.base.proofs.Unique.{is-unique}
 use Rattle.operation.proofs as operation
 
 pub steps-of-unique : OneAnswer (operation.order.steps_of.Reads.Post tt)

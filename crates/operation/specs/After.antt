@@ -1,11 +1,11 @@
 -- What an expression gives after its last operand. Assumes nothing.
 use mathlib.Core.Path.{_≡_}
 use mathlib.Core.List.{List}
-use Prim.Native.Nat.{ℕ, _*_, _/_, _≤_}
+use Prim.Native.Nat.{ℕ, _*_, _≤_}
 use lib.ListN.{length}
 use Rattle.value.specs.declared.Value.{Value}
 use Rattle.table.specs.declared.Node.{Node}
-use Rattle.memory.specs.Log.{entrySize, entries}
+use Rattle.memory.specs.Log.{entrySize, entries, roomIn}
 use Rattle.logs.specs.declared.store.Stored as St
 use Rattle.logs.specs.declared.store.Stored.the-variants as StV
 use Rattle.logs.specs.Held.{Holds}
@@ -36,7 +36,7 @@ twoAfter l r x (Of y n) = Of (twoValue (entries l n) r x y) n
 twoAfter l r x (Stopped code n) = Stopped code n
 
 abbrev pub threeAfter : List ℕ → Node → Value → Value → Evaluated → E.Evaluated
-threeAfter l r x y (Of z n) = threeValue (length l / entrySize) (entries l n) r x y z
+threeAfter l r x y (Of z n) = threeValue (roomIn l) (entries l n) r x y z
 threeAfter l r x y (Stopped code n) = E.stopped code (entries l n)
 
 abbrev pub storeAfter : St.Stored → Evaluated

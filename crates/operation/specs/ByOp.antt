@@ -15,7 +15,7 @@ use Rattle.value.specs.Values.{Sound, typeOf, size}
 use Rattle.table.specs.declared.Node.{Node}
 use Rattle.table.specs.Fields.{wordValue}
 use Rattle.table.specs.Decode.{Context, unknownType}
-use Rattle.table.proofs.View.{SizeOk}
+use Rattle.table.specs.Asked.{SizeOk}
 use Rattle.memory.specs.Log.{Log}
 use Rattle.memory.specs.Access as Access
 use Rattle.evaluation.specs.State.{inState}

@@ -4,7 +4,6 @@ ghost use Prim.Native.Nat.{_*_, _≤_, _<_};
 ghost use lib.ListN.{length};
 ghost use Rattle.table.specs.Records.{Framed};
 ghost use Rattle.table.specs.Bytes as Bytes;
-ghost use Rattle.table.specs.Fields.{wordValue};
 ghost use Rattle.table.specs.Decode.{context};
 ghost use Rattle.evaluation.specs.State.{inState};
 ghost use Rattle.evaluation.specs.Evaluation.{look, mostBindings};
@@ -26,14 +25,8 @@ pub enum AtOnce {
     Deeper,
 }
 
-// The word of a record, in two numbers of 32 bits.
-fn word_value(r: Node) -> u64
-    ensures { λ v. ⌜ v ≡ wordValue r ⌝ }
-{
-    (r.b as u64) + 4294967296 * (r.c as u64)
-}
-
-// The value of a variable: what it is bound to, else what the state has.
+// The value of a variable: what it is bound to, else what the state has. A search copies the bindings, so there is none where no binding
+// is in force.
 fn variable(s: &[u8], h: Header, state: &[u64], bindings: Bindings, x: u32) -> Value
     requires { ⌜ Framed (now s) h ⌝ }
     requires { ⌜ 2 * h .variables ≤ length (now state) ⌝ }
@@ -41,14 +34,18 @@ fn variable(s: &[u8], h: Header, state: &[u64], bindings: Bindings, x: u32) -> V
     requires { ⌜ x < h .variables ⌝ }
     ensures { λ r. ⌜ r ≡ look (bindingsOf bindings) (inState (now (state .entry)) (context (now (s .entry)) .type x) x) x ⌝ }
 {
-    let f = bindings.find(x);
+    let n = bindings.count;
+    let f = match n {
+        0 => Found::Free,
+        _ => bindings.find(x),
+    };
     match f {
         Found::Bound(v) => v,
         Found::Free => states::read(state, by_op::type_of(s, h, x), x),
     }
 }
 
-// By a record's op.
+// By a record's op: nothing as yet for one that has operands, and for a number that is no op.
 fn of_record(s: &[u8], h: Header, state: &[u64], bindings: Bindings, r: Node) -> AtOnce
     requires { ⌜ Framed (now s) h ⌝ }
     requires { ⌜ 2 * h .variables ≤ length (now state) ⌝ }
@@ -59,13 +56,13 @@ fn of_record(s: &[u8], h: Header, state: &[u64], bindings: Bindings, r: Node) ->
     let op = r.op;
     match op {
         ops::VAR => AtOnce::Is(variable(s, h, state, bindings, r.a)),
-        ops::WORD => AtOnce::Is(Value::Word(r.p, word_value(r))),
+        ops::WORD => AtOnce::Is(Value::Word(r.p, bytes::word_value(r))),
         ops::UNKNOWN => AtOnce::Is(Value::Unknown(by_op::unknown(r))),
         _ => AtOnce::Deeper,
     }
 }
 
-// The value of a record without operands.
+// The value of a record without operands: unknown for one that has some.
 pub fn leaf(s: &[u8], h: Header, state: &[u64], bindings: Bindings, r: Node) -> Value
     requires { ⌜ Framed (now s) h ⌝ }
     requires { ⌜ 2 * h .variables ≤ length (now state) ⌝ }
@@ -80,7 +77,7 @@ pub fn leaf(s: &[u8], h: Header, state: &[u64], bindings: Bindings, r: Node) -> 
     }
 }
 
-// Expression i, where it has no operands.
+// What expression i gives before any operand is evaluated.
 pub fn at_once(s: &[u8], h: Header, state: &[u64], bindings: Bindings, i: u32) -> AtOnce
     requires { ⌜ Framed (now s) h ⌝ }
     requires { ⌜ 2 * h .variables ≤ length (now state) ⌝ }

@@ -12,8 +12,3 @@ pub enum Evaluated {
     // The number of a stop, and how many entries the log has then.
     Stopped(u32, usize),
 }
-
-// The stops of an evaluation: a byte to append and the log is full, a let and 64 bindings are in force.
-pub const LOG_FULL: u32 = 34;
-
-pub const TOO_MANY_BINDINGS: u32 = 36;

@@ -14,6 +14,7 @@ pub enum Steps {
     Three(u32, u32, u32),
 }
 
+// By the op of a record: none for an op without operands, and for a number that is no op.
 pub fn steps_of(r: Node) -> Steps
     ensures { λ o. ⌜ o ≡ stepsOf r ⌝ }
 {

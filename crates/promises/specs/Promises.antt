@@ -1,7 +1,8 @@
 -- The three demands of the customer as theorems about the code: over the contracts of `verdict::check`, `verdict::seal_check`,
 -- `runner::entry::run` and `runner::accepted::run_accepted`, as the toolchain reads them. It proves that every call of a function
 -- ends and keeps its contract; what a call that does so gives is said here, and proved in proofs/Proofs.antt. A contract speaks of
--- lists of any numbers, so whatever can be lent is among them. Assumes nothing.
+-- lists of any numbers, so whatever can be lent is among them. The words quoted above each demand are the mission's, as in Demands.antt.
+-- Assumes nothing.
 use mathlib.Core.Path.{_≡_}
 use mathlib.Core.List.{List, _++_}
 use mathlib.Core.Logic.{_↔_}

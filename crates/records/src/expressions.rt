@@ -14,11 +14,13 @@ use crate::fields::all;
 use crate::fields::size;
 use crate::fields::variable_of;
 use base::Answer;
+use base::codes;
 use base::within;
 use table::Header;
 use table::Node;
 use table::ROLE_LET;
 use table::bytes::expression;
+use table::bytes::word_value;
 use table::ops;
 use word::subs;
 
@@ -43,13 +45,6 @@ fn bits(p: u32, q: u32) -> bool
         return false;
     }
     p - q <= 63
-}
-
-// b + 2^32·c.
-fn word_value(b: u32, c: u32) -> u64
-    ensures { λ r. ⌜ r ≡ b + 2 ^ 32 * c ⌝ }
-{
-    (b as u64) + 4294967296 * (c as u64)
 }
 
 // var: variable a.
@@ -80,7 +75,7 @@ fn word_ok(n: Node) -> bool
         n.a == 0,
         true,
         true,
-        word::width::fits(n.p, word_value(n.b, n.c)),
+        word::width::fits(n.p, word_value(n)),
     )
 }
 
@@ -279,7 +274,7 @@ pub fn expressions(s: &[u8], h: Header) -> Answer
     let mut i: u32 = 0;
     while i < h.expressions {
         if !expression_ok(s, h, i) {
-            return Answer::Refused(6, i);
+            return Answer::Refused(codes::EXPRESSION, i);
         }
         i += 1;
     }

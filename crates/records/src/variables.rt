@@ -7,6 +7,7 @@ ghost use Rattle.base.specs.Choice as Choice;
 ghost use Rattle.base.specs.Refusals.{refusal};
 ghost use Rattle.table.specs.Records.{Framed, variableOk, variableRule};
 use base::Answer;
+use base::codes;
 use base::within;
 use table::Header;
 use table::Variable;
@@ -57,7 +58,7 @@ pub fn variables(s: &[u8], h: Header) -> Answer
     while i < h.variables {
         let v = variable(s, h, i as usize);
         if !variable_ok(v) {
-            return Answer::Refused(5, i);
+            return Answer::Refused(codes::VARIABLE, i);
         }
         i += 1;
     }

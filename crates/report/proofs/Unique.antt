@@ -1,7 +1,8 @@
 -- No second answer fits: each public function leaves one result, and one content of the buffer. Assumes nothing.
 use contract.Lifetimes.{Lfts}
 use denote.Ref.{now}
-use Rattle.base.proofs.Unique.{OneOutcome, is-unique}
+use Rattle.base.specs.OneAnswer.{OneOutcome}
+use Rattle.base.proofs.Unique.{is-unique}
 use Rattle.report.proofs as report
 
 pub add-unique : (lent : Lfts 2) → OneOutcome (report.text.add.Reads.Post lent) (λ s. now (s .0))

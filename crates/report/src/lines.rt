@@ -9,6 +9,7 @@ ghost use Rattle.report.specs.Placed.{Adds};
 use crate::text::add;
 use crate::text::field;
 use table::Header;
+use table::ROLE_STATE;
 use table::bytes::variable;
 
 // `verdict CODE PLACE` or `seal CODE PLACE`, the word being given.
@@ -45,7 +46,7 @@ pub fn run_line(
     add(out, addressed, b"\n")
 }
 
-// What a variable's pair says: absent, a word, unknown, or a memory.
+// What a variable's pair says: a word, unknown, a memory, or absent for any other kind.
 fn content(out: &mut [u8], at: usize, kind: u64, n: u64) -> usize
     requires { ⌜ at + 28 ≤ length (now out) ⌝ }
     ensures { λ r. ⌜ Adds 28 (now (out .entry)) at (Lines.content kind n) (now (out .exit)) r ⌝ }
@@ -84,7 +85,7 @@ fn line_of(table: &[u8], h: Header, state: &[u64], out: &mut [u8], at: usize, x:
     ensures { λ r. ⌜ Adds 53 (now (out .entry)) at (Lines.lineOf (now (table .entry)) (now (state .entry)) x) (now (out .exit)) r ⌝ }
 {
     let v = variable(table, h, x);
-    if v.role != 0 {
+    if v.role != ROLE_STATE {
         return at;
     }
     variable_line(out, at, x as u64, state[2 * x], state[2 * x + 1])

@@ -8,7 +8,8 @@ use Rattle.table.specs.Bytes.{header}
 use Rattle.table.specs.Records.{headerRules, recordRules}
 use Rattle.table.specs.Decode.{context, blockAt, program}
 use Rattle.table.proofs.RecordLaws.{read-holds}
-use Rattle.table.proofs.Nesting.{IsBlock, whole-block}
+use Rattle.table.specs.Asked.{IsBlock}
+use Rattle.table.proofs.Nesting.{whole-block}
 use Rattle.running.specs.Run.{Left, run}
 use Rattle.running.specs.Start.{Start, roomOf, logOf}
 use Rattle.running.specs.Result.{Accepts, ran, finished, nextStart}

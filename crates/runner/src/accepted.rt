@@ -7,7 +7,7 @@ use crate::Outcome;
 use execute::turns::block;
 use table::bytes::header;
 
-// What is left is an accepted start again, for every budget.
+// How the run ends. What it leaves, at a stop too, is an accepted start again, for every budget.
 pub fn run_accepted(
     table: &[u8],
     state: &mut [u64],

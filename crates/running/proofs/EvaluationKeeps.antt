@@ -13,12 +13,13 @@ use Rattle.typing.specs.Typing.{_⊢_∶_, T-VAR, T-INT, T-LOAD, T-STORE, T-AOP
 use Rattle.typing.specs.Typing.{T-ITE, T-EXTRACT, T-CONCAT}
 use Rattle.memory.specs.Log.{Log}
 use Rattle.memory.proofs.LogLaws.{stay}
-use Rattle.memory.proofs.LogRules.{InRoom}
+use Rattle.memory.specs.Room.{InRoom}
 use Rattle.memory.proofs.HasLaws.{has-stays, has-word, has-unknown, has-binary, has-unary, has-cast, has-extract, has-concat, has-choose}
 use Rattle.memory.proofs.AccessKeeps.{has-load, store-keeps}
 use Rattle.evaluation.specs.Evaluation.{Evaluated, stopped, eval, Binding, mostBindings}
 use Rattle.evaluation.proofs.Formed.{Formed, f-var, f-word, f-load, f-store, f-binary, f-unary, f-cast, f-let, f-unknown, f-ite, f-extract, f-concat}
-use Rattle.evaluation.proofs.EvaluationLaws.{Fits, fits-stays, fits-bound, has-look, Gives, gives, stops, gives-then, gives-stored, too-many-bindings}
+use Rattle.evaluation.specs.Fitting.{Fits}
+use Rattle.evaluation.proofs.EvaluationLaws.{fits-stays, fits-bound, has-look, Gives, gives, stops, gives-then, gives-stored, too-many-bindings}
 
 -- a let, by whether there is room for its binding
 at-let :

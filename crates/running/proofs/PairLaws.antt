@@ -2,7 +2,7 @@
 use mathlib.Core.Path.{_≡_, refl, _∙_}
 use mathlib.Core.Bool.{Bool, true, false, _&&_, and-eq-true-iff}
 use mathlib.Core.List.{List, []}
-use Prim.Native.Nat.{ℕ, _+_, _*_, _^_, _<_}
+use Prim.Native.Nat.{ℕ, _+_, _*_, _<_}
 use native.Mathlib.Omega.{arith}
 use lib.Dec.{eqb, leb}
 use lib.ListN.{length, getD}
@@ -21,14 +21,15 @@ use Rattle.table.specs.Records.{variableOk}
 use Rattle.table.specs.Decode.{context, declaredType}
 use Rattle.memory.specs.Log.{Log}
 use Rattle.memory.proofs.LogLaws.{_⊑_}
-use Rattle.memory.specs.Typed.{Head}
-use Rattle.memory.proofs.LogRules.{InRoom, head-stays}
+use Rattle.memory.specs.Room.{InRoom}
+use Rattle.memory.proofs.LogRules.{head-stays}
 use Rattle.memory.specs.Typed.{Has}
 use Rattle.memory.proofs.HasLaws.{has-word, has-unknown}
 use Rattle.evaluation.specs.State.{valueOf, kindOf, numberOf, inState, moved}
 use Rattle.evaluation.proofs.StateLaws.{length-moved, moved-kind, moved-number, moved-other}
-use Rattle.evaluation.proofs.EvaluationLaws.{Fits, outside}
+use Rattle.evaluation.specs.Fitting.{Fits, outside}
 use Rattle.running.specs.Start.{pairOk}
+use Rattle.running.specs.Standing.{Pair, absent, word, unknown, memory, StateOk}
 
 -- what both of two tests say
 parts : (a b : Bool) → (a && b) ≡ true → (a ≡ true) × (b ≡ true)
@@ -59,13 +60,6 @@ type-declared (mem e w) = rw e w
 
 -- ------------------------------------------------------------------------------------------------
 -- Pairs
-
--- "0,0 absent; 1,word that fits, for an immediate; 2,0 unknown; 3,head, for a memory"; a let variable is absent
-pub data Pair (L : Log) (v : Variable) (kind n : ℕ) : Type 0 where
-  absent : kind ≡ 0 → n ≡ 0 → Pair L v kind n
-  word : v .role ≡ 0 → kind ≡ 1 → v .kind ≡ 1 → n < 2 ^ v .width → Pair L v kind n
-  unknown : v .role ≡ 0 → kind ≡ 2 → n ≡ 0 → Pair L v kind n
-  memory : v .role ≡ 0 → kind ≡ 3 → v .kind ≡ 2 → Head L (v .addressWidth) n → Pair L v kind n
 
 pub pair : (L : Log) (v : Variable) (kind n : ℕ) → pairOk L v kind n ≡ true → Pair L v kind n
 unfolding pairOk
@@ -136,11 +130,6 @@ has-moved {v = v} (Memory w head) (mem t z) r h =
 
 -- ------------------------------------------------------------------------------------------------
 -- States
-
--- two numbers a variable of the table, each pair one of its variable
-pub record StateOk (s : List ℕ) (L : Log) (σ : List ℕ) : Type 0 where
-  pub size : length σ ≡ 2 * header s .variables
-  pub pairs : (x : ℕ) → x < header s .variables → Pair L (variable s x) (getD σ (2 * x) 0) (getD σ (2 * x + 1) 0)
 
 pub state-stays : {s σ : List ℕ} {L M : Log} → L ⊑ M → StateOk s L σ → StateOk s M σ
 state-stays p k = record { size = k .size; pairs = λ x h. pair-stays p (k .pairs x h) }

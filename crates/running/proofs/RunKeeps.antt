@@ -15,7 +15,7 @@ use Rattle.table.specs.Syntax.{Expr, Block, _then_}
 use Rattle.typing.specs.Typing.{_⊢_∶_, Ok, T-END, T-MOVE, T-JMP, T-CPUEXN, T-SPECIAL, T-WHILE, T-IF}
 use Rattle.memory.specs.Log.{Log}
 use Rattle.memory.proofs.LogLaws.{_⊑_, stay, ⊑-trans}
-use Rattle.memory.proofs.LogRules.{InRoom}
+use Rattle.memory.specs.Room.{InRoom}
 use Rattle.memory.specs.Typed.{Has}
 use Rattle.evaluation.specs.Evaluation.{Evaluated, value, stopped, eval}
 use Rattle.evaluation.proofs.Formed.{Formed, FormedBlock, f-end, f-move, f-jmp, f-cpuexn, f-special, f-while, f-if, formed-then}
@@ -23,8 +23,10 @@ use Rattle.evaluation.proofs.EvaluationLaws.{StopsBy, log-full, too-many-bindin
 use Rattle.running.specs.declared.Ending.{Ending}
 use Rattle.running.specs.declared.Ending.the-variants.{Done, Stopped}
 use Rattle.running.specs.Run.{Left, left, stop, run, Guard, holds, fails, unsure, guard, target}
+use Rattle.running.specs.Standing.{Stands}
 use Rattle.running.proofs.EvaluationKeeps.{eval-keeps}
-use Rattle.running.proofs.PairLaws.{Declared, StateOk, state-stays, state-fits, state-moved}
+use Rattle.running.specs.Standing.{StateOk}
+use Rattle.running.proofs.PairLaws.{Declared, state-stays, state-fits, state-moved}
 
 -- one block and then another, both ok
 pub ok-then : {Γ : Context} {A : ℕ} {b k : Block} → Ok Γ A b → Ok Γ A k → Ok Γ A (b then k)
@@ -57,12 +59,6 @@ pub record Kept (s : List ℕ) (room t : ℕ) (L : Log) (l : Left) : Type 0 wher
   pub next : l .next < 2 ^ header s .width
   pub remaining : l .remaining ≤ t
   pub ends : EndsBy (l .ending)
-
--- where a run stands: its state, log and next address
-pub record Stands (s : List ℕ) (room : ℕ) (σ : List ℕ) (L : Log) (a : ℕ) : Type 0 where
-  pub state : StateOk s L σ
-  pub log : InRoom room L
-  pub next : a < 2 ^ header s .width
 
 kept-left : {s σ : List ℕ} {room a : ℕ} {L : Log} {e : Ending} (t : ℕ) → EndsBy e → Stands s room σ L a → Kept s room t L (left e t σ L a)
 unfolding left

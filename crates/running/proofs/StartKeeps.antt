@@ -25,7 +25,8 @@ use Rattle.running.specs.Run.{Left, run}
 use Rattle.running.specs.Start.{Start, mostEntries, roomOf, logOf, numbersOk, pairOk, startRules}
 use Rattle.running.specs.Result.{ran, finished, nextStart}
 use Rattle.running.proofs.PairLaws.{declared, pair, pair-ok, state-fits}
-use Rattle.running.proofs.RunKeeps.{Stands, Kept, run-keeps}
+use Rattle.running.specs.Standing.{Stands}
+use Rattle.running.proofs.RunKeeps.{Kept, run-keeps}
 
 -- ------------------------------------------------------------------------------------------------
 -- Checked tables and accepted starts

@@ -17,7 +17,8 @@ use Rattle.memory.specs.Log.{Log}
 use Rattle.memory.specs.Access.{headOf}
 use Rattle.evaluation.specs.State.{inState, valueOf}
 use Rattle.evaluation.proofs.StateLaws.{inState-past}
-use Rattle.running.proofs.PairLaws.{Pair, absent, word, unknown, memory, pair}
+use Rattle.running.specs.Standing.{Pair, absent, word, unknown, memory}
+use Rattle.running.proofs.PairLaws.{pair}
 use Rattle.running.specs.Start.{Start, startRules, numbersOk, logOf}
 use Rattle.running.specs.Result.{Accepts, runRules, refused, result, ran}
 

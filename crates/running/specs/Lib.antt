@@ -1,3 +1,4 @@
 pub mod Run
 pub mod Start
 pub mod Result
+pub mod Standing

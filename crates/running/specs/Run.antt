@@ -1,5 +1,5 @@
--- Running a block with ticks. The names in capitals are rules of 002; paper 01 completes the rules of sequences, which the public copy
--- has lost, and narrows all of them by the ticks. Assumes nothing.
+-- Running a block with ticks. The names in capitals are rules of 002. Its public copy has lost the rules of sequences, which paper 01 completes, and
+-- WHILE_FALSE and IFTHEN_FALSE, which are named as their neighbours are. Paper 01 narrows all of them by the ticks. Assumes nothing.
 use mathlib.Core.Bool.{true, false}
 use mathlib.Core.List.{List, []}
 use mathlib.Core.Option.{Option, none, some}

@@ -1,14 +1,14 @@
 -- What a run takes, and accepted starts: refusals 16 to 18. Assumes nothing.
 use mathlib.Core.Bool.{Bool, true, _&&_, _||_}
 use mathlib.Core.List.{List, [], _∷_}
-use Prim.Native.Nat.{ℕ, suc, _+_, _*_, _/_, _%_, _^_}
+use Prim.Native.Nat.{ℕ, suc, _+_, _*_, _%_, _^_}
 use lib.Dec.{leb, ltb, eqb}
 use lib.ListN.{length, getD}
 use Rattle.base.specs.Choice.{within}
 use Rattle.base.specs.Refusals.{Rule}
 use Rattle.table.specs.declared.Variable.{Variable}
 use Rattle.table.specs.Bytes.{header, variable}
-use Rattle.memory.specs.Log.{Log, entrySize, entries, newestOk, widthAt}
+use Rattle.memory.specs.Log.{Log, entrySize, entries, newestOk, widthAt, roomIn}
 
 pub record Start : Type 0 where
   pub table : List ℕ  -- bytes
@@ -23,7 +23,7 @@ abbrev pub mostEntries : ℕ
 mostEntries = 65536
 
 abbrev pub roomOf : Start → ℕ
-roomOf s = length (s .log) / entrySize
+roomOf s = roomIn (s .log)
 
 abbrev pub logOf : Start → Log
 logOf s = entries (s .log) (s .count)

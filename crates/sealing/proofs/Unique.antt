@@ -1,6 +1,7 @@
 -- No second answer fits: the contract of each public function leaves one result. Assumes nothing.
 use contract.Lifetimes.{Lfts}
-use Rattle.base.proofs.Unique.{OneAnswer, is-unique}
+use Rattle.base.specs.OneAnswer.{OneAnswer}
+use Rattle.base.proofs.Unique.{is-unique}
 use Rattle.sealing.proofs as sealing
 
 pub ops-unique :
@@ -9,11 +10,11 @@ pub ops-unique :
     × OneAnswer (sealing.ops.load.Reads.Post tt)
     × OneAnswer (sealing.ops.store.Reads.Post tt)
     × OneAnswer (sealing.ops.lets.Reads.Post tt)
-ops-unique = (λ a x y s t. is-unique, λ a x y s t. is-unique, λ a x y s t. is-unique, λ a x y s t. is-unique, λ a x y s t. is-unique)
+ops-unique = search is-unique
 
 pub by-op-unique : (lent : Lfts 1) →
     OneAnswer (sealing.by_op.is_sealed.Reads.Post lent)
     × OneAnswer (sealing.by_op.leaf.Reads.Post lent)
     × OneAnswer (sealing.by_op.two.Reads.Post lent)
     × OneAnswer (sealing.by_op.three.Reads.Post tt)
-by-op-unique lent = (λ a x y s t. is-unique, λ a x y s t. is-unique, λ a x y s t. is-unique, λ a x y s t. is-unique)
+by-op-unique lent = search is-unique

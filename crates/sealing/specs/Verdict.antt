@@ -41,7 +41,7 @@ unfoldable pub sealRules : List ℕ → List Rule
 unfolding expressionSealRule statementSealRule
 sealRules s = expressionSealRule s ∷ statementSealRule s ∷ []
 
--- refusals 1 to 15, in their order
+-- "seal check 1 to 15", in their order
 unfoldable pub sealCheck : List ℕ → Answer
 unfolding refusal checkRules sealRules
 sealCheck s = refusal (checkRules s ++ sealRules s)

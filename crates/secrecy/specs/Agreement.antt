@@ -1,4 +1,4 @@
--- Demand 3: what two starts must share, and what their runs then share. Assumes nothing.
+-- Demand 3: what two starts must share, and what their runs then share. The words quoted are the mission's. Assumes nothing.
 use mathlib.Core.Path.{_≡_}
 use mathlib.Core.Bool.{false}
 use mathlib.Core.List.{List}

@@ -6,7 +6,8 @@ use Prim.Native.Nat.{ℕ, suc, _*_, _^_}
 use lib.Dec.{leb, ltb, eqb}
 use lib.ListN.{length}
 use Rattle.base.specs.Choice.{within}
-use Rattle.memory.specs.Log.{Entry, Log, entrySize, unknownByte, entryAt, entries, widthAt, newestOk}
+use Rattle.memory.specs.declared.Entry.{Entry}
+use Rattle.memory.specs.Log.{Log, entrySize, unknownByte, entryAt, entries, widthAt, newestOk}
 use Rattle.memory.proofs.LogLaws.{length-entries}
 
 regroup : (p w a b l : Bool) → (p && (w && (a && (b && l)))) ≡ ((w && (a && b)) && (p && l))
@@ -35,7 +36,7 @@ regrouped L n e h =
     (eqb (e .previous) 0 || eqb (widthAt L (e .previous)) (e .width)))
 
 -- entry n of a buffer, with those before it
-pub newest-regrouped : (l : List ℕ) (n before : ℕ) → n ≡ suc before
-    → newestOk (entries l n) ≡ (inLimits (entryAt l (entrySize * before)) && linked (entries l before) before (entryAt l (entrySize * before)))
+pub newest-regrouped : (l : List ℕ) (n before : ℕ) {e : Entry} → n ≡ suc before → e ≡ entryAt l (entrySize * before)
+    → newestOk (entries l n) ≡ (inLimits e && linked (entries l before) before e)
 unfolding entries
-newest-regrouped l n i e = rw e (regrouped (entries l i) i (entryAt l (entrySize * i)) (length-entries l i))
+newest-regrouped l n i later is = rw (later, is) (regrouped (entries l i) i (entryAt l (entrySize * i)) (length-entries l i))

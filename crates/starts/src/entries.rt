@@ -9,11 +9,10 @@ ghost use Rattle.base.specs.Choice as Choice;
 ghost use Rattle.base.specs.Refusals.{refusal};
 ghost use Rattle.memory.specs.Log.{entrySize, unknownByte, entries, newestOk, widthAt};
 ghost use Rattle.running.specs.Start.{mostEntries, entryRule};
-use crate::ENTRY_SIZE;
 use base::Answer;
-
-// "byte (0 to 255, or 256 unknown)"
-const UNKNOWN_BYTE: u64 = 256;
+use base::codes;
+use memory::UNKNOWN_BYTE;
+use memory::entry_at;
 
 // Whether n is an entry of the address width w, among the first count.
 pub fn head_ok(log: &[u64], count: u64, w: u64, n: u64) -> bool
@@ -26,7 +25,7 @@ pub fn head_ok(log: &[u64], count: u64, w: u64, n: u64) -> bool
     if count < n {
         return false;
     }
-    log[ENTRY_SIZE * (n as usize - 1) + 1] == w
+    entry_at(log, n as usize).width == w
 }
 
 // Whether an entry's numbers, save its previous entry, are in their limits.
@@ -63,13 +62,11 @@ fn entry_ok(log: &[u64], n: usize) -> bool
     requires { ⌜ entrySize * n ≤ length (now log) ⌝ }
     ensures { λ r. ⌜ r ≡ newestOk (entries (now (log .entry)) n) ⌝ }
 {
-    let before = n - 1;
-    let at = ENTRY_SIZE * before;
-    let width = log[at + 1];
-    if !fields_ok(width, log[at + 2], log[at + 3]) {
+    let entry = entry_at(log, n);
+    if !fields_ok(entry.width, entry.address, entry.byte) {
         return false;
     }
-    previous_ok(log, before, width, log[at])
+    previous_ok(log, n - 1, entry.width, entry.previous)
 }
 
 // Refusal 17 at the lowest entry, of the first count, that breaks the log's rules.
@@ -82,7 +79,7 @@ pub fn entries_ok(log: &[u64], count: u64) -> Answer
     let mut n: usize = 1;
     while n <= last {
         if !entry_ok(log, n) {
-            return Answer::Refused(17, n as u32);
+            return Answer::Refused(codes::ENTRY, n as u32);
         }
         n += 1;
     }

@@ -4,6 +4,3 @@
 pub mod entries;
 pub mod pairs;
 pub mod rules;
-
-// "An entry is four 64-bit numbers".
-pub const ENTRY_SIZE: usize = 4;

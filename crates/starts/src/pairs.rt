@@ -9,6 +9,7 @@ ghost use Rattle.table.specs.Records.{Framed};
 ghost use Rattle.running.specs.Start.{pairOk, pairRule};
 use crate::entries::head_ok;
 use base::Answer;
+use base::codes;
 use table::Header;
 use table::Variable;
 use table::bytes::variable;
@@ -55,7 +56,7 @@ pub fn pairs_ok(table: &[u8], h: Header, state: &[u64], log: &[u64], count: u64)
         let v = variable(table, h, i as usize);
         let at = 2 * (i as usize);
         if !pair_ok(v, log, count, state[at], state[at + 1]) {
-            return Answer::Refused(18, i);
+            return Answer::Refused(codes::PAIR, i);
         }
         i += 1;
     }

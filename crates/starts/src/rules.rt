@@ -7,10 +7,11 @@ ghost use Rattle.table.specs.Bytes as Bytes;
 ghost use Rattle.table.specs.Records.{Framed};
 ghost use Rattle.running.specs.Start.{numbersRule, startRules};
 ghost use Rattle.starts.specs.Lent.{lent};
-use crate::ENTRY_SIZE;
 use crate::entries::entries_ok;
 use crate::pairs::pairs_ok;
 use base::Answer;
+use base::codes;
+use memory::ENTRY_SIZE;
 use table::Header;
 
 // "over 65,536 entries"
@@ -23,19 +24,19 @@ fn numbers(h: Header, state: &[u64], log: &[u64], count: u64, next: u64) -> Answ
 {
     let room = log.len() / ENTRY_SIZE;
     if state.len() != 2 * (h.variables as usize) {
-        return Answer::Refused(16, 0);
+        return Answer::Refused(codes::START, 0);
     }
     if log.len() % ENTRY_SIZE != 0 {
-        return Answer::Refused(16, 1);
+        return Answer::Refused(codes::START, 1);
     }
     if MOST_ENTRIES < room {
-        return Answer::Refused(16, 1);
+        return Answer::Refused(codes::START, 1);
     }
     if (room as u64) < count {
-        return Answer::Refused(16, 2);
+        return Answer::Refused(codes::START, 2);
     }
     if !word::width::fits(h.width, next) {
-        return Answer::Refused(16, 3);
+        return Answer::Refused(codes::START, 3);
     }
     Answer::Accepted
 }

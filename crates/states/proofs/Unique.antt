@@ -1,7 +1,8 @@
 -- No second answer fits: the contract of each public function leaves one result, and one content of the state. Assumes nothing.
 use contract.Lifetimes.{Lfts}
 use denote.Ref.{now}
-use Rattle.base.proofs.Unique.{OneAnswer, OneContent, is-unique}
+use Rattle.base.specs.OneAnswer.{OneAnswer, OneContent}
+use Rattle.base.proofs.Unique.{is-unique}
 use Rattle.states.proofs as states
 
 pub value-of-unique : OneAnswer (states.value_of.Reads.Post tt)

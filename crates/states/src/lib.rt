@@ -13,7 +13,7 @@ pub const UNKNOWN: u64 = 2;
 
 pub const MEMORY: u64 = 3;
 
-// The value of a pair, for a variable of a type.
+// The value of a pair, for a variable of a type: unknown for an absent variable, and for any number that is no kind.
 pub fn value_of(t: ValueType, kind: u64, number: u64) -> Value
     ensures { λ r. ⌜ r ≡ valueOf t kind number ⌝ }
 {

@@ -18,7 +18,7 @@ use Rattle.table.specs.Fields as F
 use Rattle.table.specs.Fields.{Row, noRow}
 use Rattle.table.specs.Records.{fieldOk, variableOk, recordOk}
 use Rattle.table.specs.Decode.{unknownType, declaredType}
-use Rattle.table.proofs.View.{SizeOk}
+use Rattle.table.specs.Asked.{SizeOk}
 
 -- ------------------------------------------------------------------------------------------------
 -- The fields of a record

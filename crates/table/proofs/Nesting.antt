@@ -11,6 +11,7 @@ use lib.Dec.{ltb, eqb}
 use borrow.Author.Tests.{ltb-true, ltb-false, leb-true, lt-ltb, le-ltb}
 use Rattle.base.specs.Choice.{if_then_else_}
 use Rattle.base.proofs.BoolLaws.{and-right}
+use Rattle.table.specs.Asked.{IsBlock}
 use Rattle.table.specs.Bytes.{header, statement}
 use Rattle.table.specs.Fields.{statementRow}
 use Rattle.table.specs.Records.{recordOk, firstEnd, secondEnd, endsAround, blockEnd}
@@ -86,11 +87,6 @@ end-skips s i m (suc j) h f = go (decLe m j) (end-skips s i m j)
 
 -- ------------------------------------------------------------------------------------------------
 -- Blocks
-
--- the l statements from n on are what is left of the block around statement n
-pub record IsBlock (s : List ℕ) (n l : ℕ) : Type 0 where
-  pub inside : n + l ≤ header s .statements
-  pub ends : 0 < l → blockEnd s n ≡ n + l
 
 -- "they end inside the block around them"
 pub bodies-inside : {s : List ℕ} → RecordsHold s → (j : ℕ) → j < header s .statements → secondEnd s j ≤ endBelow s j j

@@ -19,7 +19,8 @@ use Rattle.table.specs.Syntax.{Block}
 use Rattle.table.specs.Records.{RecordsHold}
 use Rattle.table.proofs.View.{Reads, r-end, r-move, r-jmp, r-cpuexn, r-special, r-while, r-if}
 use Rattle.table.proofs.FieldLaws.{FieldsHold, fields-hold, no-row, operand-field, state-field}
-use Rattle.table.proofs.Nesting.{IsBlock, Parts, parts-by-op, whole-block}
+use Rattle.table.specs.Asked.{IsBlock}
+use Rattle.table.proofs.Nesting.{Parts, parts-by-op, whole-block}
 
 -- ------------------------------------------------------------------------------------------------
 -- A statement by its op, where the blocks behind it are read

@@ -2,21 +2,16 @@
 -- statements. Assumes nothing.
 use mathlib.Core.Path.{_≡_}
 use mathlib.Core.List.{List}
-use Prim.Native.Nat.{ℕ, suc, _+_, _-_, _%_, _≤_, _<_}
+use Prim.Native.Nat.{ℕ, suc, _+_, _-_, _≤_, _<_}
 use lib.Dec.{eqb}
 use Rattle.word.specs.Words.{Width, IsWord}
 use Rattle.value.specs.Values.{TypeOk}
+use Rattle.table.specs.Asked.{SizeOk}
 use Rattle.table.specs.Bytes.{header, variable, expression, statement}
 use Rattle.table.specs.Fields.{wordValue}
 use Rattle.table.specs.Decode.{expr, unknownType}
 use Rattle.table.specs.Syntax as S
 use Rattle.table.specs.Syntax.{Expr, Block}
-
--- "Sizes are the multiples of 8 from 8 to 64."
-pub record SizeOk (z : ℕ) : Type 0 where
-  pub multiple : z % 8 ≡ 0
-  pub least : 8 ≤ z
-  pub most : z ≤ 64
 
 -- expression i by its op
 pub data View (s : List ℕ) (i : ℕ) : Expr → Type 0 where

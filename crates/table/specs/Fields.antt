@@ -62,6 +62,7 @@ expressionRows =
     ∷ (12, row unnamed unnamed unnamed operand operand unnamed nothing)  -- concat
     ∷ []
 
+-- "blocks are never empty": a body has a length of at least 1, an else alone may have none
 unfoldable pub statementRows : List (ℕ × Row)
 statementRows =
     (1, row unnamed unnamed unnamed stateVariable operand unnamed nothing)  -- move

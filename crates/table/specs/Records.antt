@@ -27,6 +27,8 @@ mostExpressions = 2048
 abbrev pub mostStatements : ℕ
 mostStatements = 1024
 
+-- 1 "under 32 bytes", 2 "format or A", 3 "a count", 4 "offset or length": "the offsets are 32, 32+8V, 32+8V+16E, and the total is
+-- 32+8V+16E+16S, which is also the length lent"
 unfoldable pub headerRules : List ℕ → List Rule
 headerRules s =
     let h = header s in
@@ -51,7 +53,8 @@ pub record Framed (s : List ℕ) (h : Header) : Type 0 where
 -- ------------------------------------------------------------------------------------------------
 -- The records: 5 to 7
 
--- kind, label, width, address width, role, "three zeros"
+-- "kind (1 immediate, 2 memory), label (0 open, 1 sealed), width (1 to 64; for memory 8), address width (0 for an immediate, 1 to 64 for
+-- memory), role (0 state, 1 let), three zeros"
 unfoldable pub variableOk : Variable → Bool
 variableOk v =
     ((eqb (v .kind) 1 && (within 1 64 (v .width) && eqb (v .addressWidth) 0))
@@ -109,6 +112,7 @@ unfoldable pub variableRule : List ℕ → Rule
 unfolding variableOk variable header
 variableRule s = record { code = 5; places = header s .variables; holds = λ i. variableOk (variable s i) }
 
+-- "Operands are numbers of earlier expressions."
 unfoldable pub expressionRule : List ℕ → Rule
 unfolding recordOk expressionRow expression header
 expressionRule s =

@@ -4,6 +4,7 @@ ghost use Prim.Native.Nat.{_+_, _*_, _≤_, _<_};
 ghost use lib.ListN.{length, getD};
 ghost use Rattle.table.specs.Bytes as Bytes;
 ghost use Rattle.table.specs.Bytes.{number};
+ghost use Rattle.table.specs.Fields.{wordValue};
 ghost use Rattle.table.specs.Records.{Framed};
 use crate::Header;
 use crate::Node;
@@ -49,6 +50,13 @@ pub fn header(s: &[u8]) -> Header
         statementsAt: long(s, 24),
         total: long(s, 28),
     }
+}
+
+// The word of a record, in two numbers of 32 bits: "value b + 2^32·c".
+pub fn word_value(r: Node) -> u64
+    ensures { λ v. ⌜ v ≡ wordValue r ⌝ }
+{
+    (r.b as u64) + 4294967296 * (r.c as u64)
 }
 
 // The variable's record at a place.

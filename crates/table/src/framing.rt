@@ -10,6 +10,7 @@ ghost use Rattle.table.specs.Records.{headerRules, mostVariables, mostEx
 use crate::Header;
 use crate::bytes::header;
 use base::Answer;
+use base::codes;
 use base::within;
 
 // How many records a section has at most.
@@ -74,17 +75,17 @@ pub fn framing(s: &[u8]) -> Answer
     ensures { λ r. ⌜ r ≡ refusal (headerRules (now (s .entry))) ⌝ }
 {
     if s.len() < 32 {
-        return Answer::Refused(1, 0);
+        return Answer::Refused(codes::TOO_SHORT, 0);
     }
     let h = header(s);
     if !format_ok(h) {
-        return Answer::Refused(2, 0);
+        return Answer::Refused(codes::FORMAT, 0);
     }
     if !counts_ok(h) {
-        return Answer::Refused(3, 0);
+        return Answer::Refused(codes::COUNT, 0);
     }
     if !sections_ok(h, s.len()) {
-        return Answer::Refused(4, 0);
+        return Answer::Refused(codes::LENGTH, 0);
     }
     Answer::Accepted
 }

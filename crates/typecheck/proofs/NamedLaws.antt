@@ -1,21 +1,20 @@
 -- What a record names, where the records hold. Assumes nothing.
-use mathlib.Core.Path.{_≡_, subst}
+use mathlib.Core.Path.{_≡_, ap, subst, sym, _∙_}
+use mathlib.Core.Bool.{Bool, true}
 use mathlib.Core.List.{List}
-use Prim.Native.Nat.{ℕ, _+_, _≤_, _<_}
-use lib.Dec.{leb}
-use borrow.Author.Tests.{leb-true}
+use Prim.Native.Nat.{ℕ, _<_}
 use Rattle.base.specs.Numbered.{numbered}
-use Rattle.base.proofs.BoolLaws.{and-left, and-right}
+use Rattle.base.proofs.BoolLaws.{and-left}
 use Rattle.table.specs.declared.Header.{Header}
 use Rattle.table.specs.declared.Node.{Node}
 use Rattle.table.specs.Bytes.{header, expression, statement}
-use Rattle.table.specs.Fields.{noRow, expressionRows, statementRows, expressionRow, statementRow}
-use Rattle.table.specs.Records.{Framed, RecordsHold, recordOk}
-use Rattle.table.proofs.FieldLaws.{FieldsHold, fields-hold, operand-field, variable-field, let-field, state-field}
+use Rattle.table.specs.Fields.{operand, noRow, expressionRows, statementRows, expressionRow, statementRow}
+use Rattle.table.specs.Records.{Framed, RecordsHold, fieldOk, recordOk}
+use Rattle.table.proofs.FieldLaws.{FieldsHold, fields-hold, operand-field, state-field}
 
 module _ {s : List ℕ} (hold : RecordsHold s) (i : ℕ) where
   -- the fields of an expression whose op is k are as the row under k says
-  fields : i < header s .expressions → (k : ℕ) → expression s i .op ≡ k → FieldsHold s i (numbered noRow expressionRows k) (expression s i)
+  pub fields : i < header s .expressions → (k : ℕ) → expression s i .op ≡ k → FieldsHold s i (numbered noRow expressionRows k) (expression s i)
   unfolding expressionRow
   fields inside k op =
       subst (λ (k : ℕ). FieldsHold s i (numbered noRow expressionRows k) (expression s i)) op
@@ -30,51 +29,47 @@ module _ {s : List ℕ} (hold : RecordsHold s) (i : ℕ) where
       subst (λ (k : ℕ). FieldsHold s n (numbered noRow statementRows k) r) op
       (fields-hold s n _ r (and-left (recordOk s n (statementRow r) r) _ (hold .statements i inside)))
 
--- the frame by the table's own header
-pub own-frame : {s : List ℕ} {h : Header} → Framed s h → Framed s (header s)
-own-frame {s} f = subst (Framed s) (f .is) f
+-- ------------------------------------------------------------------------------------------------
+-- What is asked of a number
 
-pub expression-inside : {s : List ℕ} {h : Header} → Framed s h → (i : ℕ) → i < h .expressions → i < header s .expressions
-expression-inside framed i inside = rw (framed .is) at inside
+-- what a walk asks of expression k: the frame, the records, and that there is one
+abbrev pub Asked : List ℕ → ℕ → Type 0
+Asked s k = Framed s (header s) × (RecordsHold s × (k < header s .expressions))
+
+pub asked-by-head : {s : List ℕ} {h : Header} {k : ℕ} → Framed s h × (RecordsHold s × (k < h .expressions)) → Asked s k
+asked-by-head {s} {k = k} (framed, (hold, inside)) =
+    (subst (Framed s) (framed .is) framed, (hold, subst (λ (h : Header). k < h .expressions) (framed .is) inside))
 
 pub statement-inside : {s : List ℕ} {h : Header} → Framed s h → (i : ℕ) → i < h .statements → i < header s .statements
 statement-inside framed i inside = rw (framed .is) at inside
 
-module _ {s : List ℕ} {h : Header} (framed : Framed s h) (hold : RecordsHold s) (i : ℕ) {r : Node} where
-  module _ (inside : i < header s .expressions) (is : r ≡ expression s i) where
-    pub var-named : r .op ≡ 1 → r .a < h .variables
-    unfolding expressionRows
-    var-named = rw (framed .is, is) λ op. variable-field s i _ (fields hold i inside 1 op .a)
+-- ------------------------------------------------------------------------------------------------
+-- What a statement's record names
 
-    pub let-named : r .op ≡ 8 → r .a < h .variables
-    unfolding expressionRows
-    let-named = rw (framed .is, is) λ op. let-field s i _ (fields hold i inside 8 op .a) .0
+-- the record of statement i was read
+pub record StatementRead (s : List ℕ) (h : Header) (i : ℕ) (r : Node) : Type 0 where
+  pub asked : Framed s h × (RecordsHold s × (i < h .statements))
+  pub is : r ≡ statement s i
 
-    pub bits-ordered : r .op ≡ 11 → r .q ≤ r .p
-    unfolding expressionRows
-    bits-ordered = rw is λ op. leb-true _ _ (and-left _ _ (fields hold i inside 11 op .also))
+module _ {s : List ℕ} {h : Header} {i : ℕ} {r : Node} (m : StatementRead s h i r) where
+  row-fields : (k : ℕ) → r .op ≡ k → FieldsHold s (header s .expressions) (numbered noRow statementRows k) r
+  row-fields = rw (m .is) (statement-fields (m .asked .1 .0) i (statement-inside (m .asked .0) i (m .asked .1 .1)))
 
-    pub bits-few : r .op ≡ 11 → r .p ≤ r .q + 63
-    unfolding expressionRows
-    bits-few = rw is λ op. let e = expression s i in leb-true (e .p) (e .q + 63) (and-right (leb (e .q) (e .p)) _ (fields hold i inside 11 op .also))
+  asked : {k : ℕ} → k < header s .expressions → Asked s k
+  asked l = (subst (Framed s) (m .asked .0 .is) (m .asked .0), (m .asked .1 .0, l))
 
-  module _ (inside : i < h .statements) (is : r ≡ statement s i) where
-    pub moved-to : r .op ≡ 1 → r .a < h .variables
-    unfolding statementRows
-    moved-to = rw (framed .is, is) λ op. state-field s _ _ (statement-fields hold i (statement-inside framed i inside) 1 op .a) .0
+  pub moved-to : r .op ≡ 1 → Framed s h × (r .a < h .variables)
+  unfolding statementRows
+  moved-to op = (m .asked .0, rw (m .asked .0 .is) (state-field s _ _ (row-fields 1 op .a) .0))
 
-    pub moved : r .op ≡ 1 → r .b < header s .expressions
-    unfolding statementRows
-    moved = rw is λ op. operand-field s _ _ (statement-fields hold i (statement-inside framed i inside) 1 op .b)
+  pub moved : r .op ≡ 1 → Asked s (r .b)
+  unfolding statementRows
+  moved op = asked (operand-field s _ _ (row-fields 1 op .b))
 
-    pub jumped-to : r .op ≡ 2 → r .a < header s .expressions
-    unfolding statementRows
-    jumped-to = rw is λ op. operand-field s _ _ (statement-fields hold i (statement-inside framed i inside) 2 op .a)
+  -- an op whose first field is an expression's number
+  pub first-asked : (k : ℕ) → numbered noRow statementRows k .a ≡ operand → r .op ≡ k → Asked s (r .a)
+  first-asked k e op = asked (operand-field s _ (r .a) (subst (λ f. fieldOk s (header s .expressions) f (r .a) ≡ true) e (row-fields k op .a)))
 
-    pub while-guard : r .op ≡ 5 → r .a < header s .expressions
-    unfolding statementRows
-    while-guard = rw is λ op. operand-field s _ _ (statement-fields hold i (statement-inside framed i inside) 5 op .a)
-
-    pub if-guard : r .op ≡ 6 → r .a < header s .expressions
-    unfolding statementRows
-    if-guard = rw is λ op. operand-field s _ _ (statement-fields hold i (statement-inside framed i inside) 6 op .a)
+  -- what a test by op makes of the record is what it makes of the statement
+  pub under : (test : List ℕ → ℕ → Node → Bool) (k : ℕ) {x : Bool} → r .op ≡ k → x ≡ test s k r → x ≡ test s (statement s i .op) (statement s i)
+  under test k op p = p ∙ sym (ap (λ k. test s k r) op) ∙ ap (λ r. test s (r .op) r) (m .is)

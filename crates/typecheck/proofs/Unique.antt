@@ -1,6 +1,7 @@
 -- No second answer fits: the contract of each public function leaves one result. Assumes nothing.
 use contract.Lifetimes.{Lfts}
-use Rattle.base.proofs.Unique.{OneAnswer, is-unique}
+use Rattle.base.specs.OneAnswer.{OneAnswer}
+use Rattle.base.proofs.Unique.{is-unique}
 use Rattle.typecheck.proofs as typecheck
 
 pub types-unique : (lent : Lfts 1) →
@@ -8,11 +9,5 @@ pub types-unique : (lent : Lfts 1) →
     × OneAnswer (typecheck.after.two.Reads.Post lent)
     × OneAnswer (typecheck.after.three.Reads.Post tt)
     × OneAnswer (typecheck.walk.type_at.Reads.Post lent)
-    × OneAnswer (typecheck.verdict.types_ok.Reads.Post lent)
-types-unique lent = (
-  λ a x y s t. is-unique,
-  λ a x y s t. is-unique,
-  λ a x y s t. is-unique,
-  λ a x y s t. is-unique,
-  λ a x y s t. is-unique,
-)
+    × OneAnswer (typecheck.rules.types_ok.Reads.Post lent)
+types-unique lent = search is-unique

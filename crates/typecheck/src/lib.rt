@@ -4,5 +4,5 @@
 // rule, the lowest expression without a type is looked for from 0 up, so that an expression is read once more for each that it stands
 // inside: at most 64 times, its depth.
 pub mod after;
-pub mod verdict;
+pub mod rules;
 pub mod walk;

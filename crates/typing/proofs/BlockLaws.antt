@@ -5,64 +5,17 @@ use mathlib.Core.List.{List}
 use mathlib.Core.Logic.{_↔_}
 use Prim.Native.Nat.{ℕ, _+_, _≤_, _<_}
 use native.Mathlib.Omega.{arith}
-use Rattle.base.specs.Numbered.{numbered}
 use Rattle.base.proofs.RangeLaws.{Each, each-none, each-head, each-part, each-cons, each-join}
-use Rattle.value.specs.declared.ValueType.{ValueType}
-use Rattle.value.specs.declared.ValueType.the-variants.{Imm}
-use Rattle.table.specs.Bytes.{header, statement}
+use Rattle.table.specs.Bytes.{header}
 use Rattle.table.specs.Decode.{context, expr, program}
-use Rattle.table.specs.Syntax.{Expr, Block}
+use Rattle.table.specs.Syntax.{Block}
 use Rattle.table.proofs.View as R
 use Rattle.table.proofs.View.{Reads}
 use Rattle.typing.specs.Typing as T
-use Rattle.typing.specs.Typing.{_⊢_∶_, Ok, TypingHolds}
-use Rattle.typing.specs.Infer.{isType, hasType, infer}
+use Rattle.typing.specs.Typing.{Ok, TypingHolds}
+use Rattle.typing.specs.Infer.{hasType, infer}
 use Rattle.typing.specs.Verdict.{statementTypes, statementTyped}
 use Rattle.typing.proofs.TypingLaws.{this-type-iff, some-type-iff}
-
--- ------------------------------------------------------------------------------------------------
--- A statement, by its op
-
-module _ (s : List ℕ) where
-  -- what a statement of op k is asked stands under k
-  pub typed-by-op : (i k : ℕ) → statement s i .op ≡ k
-      → statementTyped s i
-      ≡ numbered (λ Γ A r type. true) statementTypes k (context s) (header s .width) (statement s i) (λ k. infer (context s) (expr s k))
-  unfolding statementTyped
-  typed-by-op i k h = rw h
-
-  asks : {t : ValueType} {e : Expr} (i : ℕ) → statementTyped s i ≡ isType t (infer (context s) e)
-      → (statementTyped s i ≡ true) ↔ (context s ⊢ e ∶ t)
-  asks {e = e} i p = rw p (this-type-iff e)
-
-  move-typed : (i : ℕ) → statement s i .op ≡ 1
-      → (statementTyped s i ≡ true) ↔ (context s ⊢ expr s (statement s i .b) ∶ context s .type (statement s i .a))
-  unfolding statementTypes
-  move-typed i h = asks i (typed-by-op i 1 h)
-
-  jmp-typed : (i : ℕ) → statement s i .op ≡ 2
-      → (statementTyped s i ≡ true) ↔ (context s ⊢ expr s (statement s i .a) ∶ Imm (header s .width))
-  unfolding statementTypes
-  jmp-typed i h = asks i (typed-by-op i 2 h)
-
-  cpuexn-typed : (i : ℕ) → statement s i .op ≡ 3 → statementTyped s i ≡ true
-  unfolding statementTypes
-  cpuexn-typed i h = typed-by-op i 3 h
-
-  special-typed : (i : ℕ) → statement s i .op ≡ 4 → statementTyped s i ≡ true
-  unfolding statementTypes
-  special-typed i h = typed-by-op i 4 h
-
-  while-typed : (i : ℕ) → statement s i .op ≡ 5 → (statementTyped s i ≡ true) ↔ (context s ⊢ expr s (statement s i .a) ∶ Imm 1)
-  unfolding statementTypes
-  while-typed i h = asks i (typed-by-op i 5 h)
-
-  if-typed : (i : ℕ) → statement s i .op ≡ 6 → (statementTyped s i ≡ true) ↔ (context s ⊢ expr s (statement s i .a) ∶ Imm 1)
-  unfolding statementTypes
-  if-typed i h = asks i (typed-by-op i 6 h)
-
--- ------------------------------------------------------------------------------------------------
--- A block, by its statements
 
 -- the l statements from statement n on keep their rules
 abbrev Typed : List ℕ → ℕ → ℕ → Type 0
@@ -73,28 +26,29 @@ BlockOk s = Ok (context s) (header s .width)
 
 module _ {s : List ℕ} where
   typed-ok : {n l : ℕ} {k : Block} → Reads s n l k → Typed s n l → BlockOk s k
+  unfolding statementTyped statementTypes
   typed-ok R.r-end p = T.T-END
-  typed-ok (R.r-move {n = n} o _ _ _ k) p = T.T-MOVE (move-typed s n o .0 (each-head p)) (typed-ok k (each-part p (omega arith)))
-  typed-ok (R.r-jmp {n = n} o _ k) p = T.T-JMP (jmp-typed s n o .0 (each-head p)) (typed-ok k (each-part p (omega arith)))
+  typed-ok (R.r-move o _ _ _ k) p = T.T-MOVE (this-type-iff _ .0 (rw o at (each-head p))) (typed-ok k (each-part p (omega arith)))
+  typed-ok (R.r-jmp o _ k) p = T.T-JMP (this-type-iff _ .0 (rw o at (each-head p))) (typed-ok k (each-part p (omega arith)))
   typed-ok (R.r-cpuexn o k) p = T.T-CPUEXN (typed-ok k (each-part p (omega arith)))
   typed-ok (R.r-special o k) p = T.T-SPECIAL (typed-ok k (each-part p (omega arith)))
-  typed-ok (R.r-while {n = n} o _ _ f b k) p =
-      T.T-WHILE (while-typed s n o .0 (each-head p)) (typed-ok b (each-part p (omega arith))) (typed-ok k (each-part p (omega arith)))
-  typed-ok (R.r-if {n = n} o _ _ f b c k) p =
-      T.T-IF (if-typed s n o .0 (each-head p)) (typed-ok b (each-part p (omega arith))) (typed-ok c (each-part p (omega arith)))
+  typed-ok (R.r-while o _ _ f b k) p =
+      T.T-WHILE (this-type-iff _ .0 (rw o at (each-head p))) (typed-ok b (each-part p (omega arith))) (typed-ok k (each-part p (omega arith)))
+  typed-ok (R.r-if o _ _ f b c k) p =
+      T.T-IF (this-type-iff _ .0 (rw o at (each-head p))) (typed-ok b (each-part p (omega arith))) (typed-ok c (each-part p (omega arith)))
       (typed-ok k (each-part p (omega arith)))
 
   ok-typed : {n l : ℕ} {k : Block} → Reads s n l k → BlockOk s k → Typed s n l
+  unfolding statementTyped statementTypes
   ok-typed R.r-end T.T-END = each-none
-  ok-typed (R.r-move {n = n} o _ _ _ k) (T.T-MOVE d q) = each-cons (move-typed s n o .1 d) (ok-typed k q)
-  ok-typed (R.r-jmp {n = n} o _ k) (T.T-JMP d q) = each-cons (jmp-typed s n o .1 d) (ok-typed k q)
-  ok-typed (R.r-cpuexn {n = n} o k) (T.T-CPUEXN q) = each-cons (cpuexn-typed s n o) (ok-typed k q)
-  ok-typed (R.r-special {n = n} o k) (T.T-SPECIAL q) = each-cons (special-typed s n o) (ok-typed k q)
-  ok-typed (R.r-while {n = n} o _ _ f b k) (T.T-WHILE d p q) =
-      each-cons (while-typed s n o .1 d) (each-part (each-join (ok-typed b p) (ok-typed k q)) (omega arith))
-  ok-typed (R.r-if {n = n} o _ _ f b c k) (T.T-IF d p p₁ q) =
-      each-cons (if-typed s n o .1 d)
-      (each-part (each-join (each-join (ok-typed b p) (ok-typed c p₁)) (ok-typed k q)) (omega arith))
+  ok-typed (R.r-move o _ _ _ k) (T.T-MOVE d q) = each-cons (rw o (this-type-iff _ .1 d)) (ok-typed k q)
+  ok-typed (R.r-jmp o _ k) (T.T-JMP d q) = each-cons (rw o (this-type-iff _ .1 d)) (ok-typed k q)
+  ok-typed (R.r-cpuexn o k) (T.T-CPUEXN q) = each-cons (rw o) (ok-typed k q)
+  ok-typed (R.r-special o k) (T.T-SPECIAL q) = each-cons (rw o) (ok-typed k q)
+  ok-typed (R.r-while o _ _ f b k) (T.T-WHILE d p q) =
+      each-cons (rw o (this-type-iff _ .1 d)) (each-part (each-join (ok-typed b p) (ok-typed k q)) (omega arith))
+  ok-typed (R.r-if o _ _ f b c k) (T.T-IF d p p₁ q) =
+      each-cons (rw o (this-type-iff _ .1 d)) (each-part (each-join (each-join (ok-typed b p) (ok-typed c p₁)) (ok-typed k q)) (omega arith))
 
   pub statements-ok-iff : {n l : ℕ} {k : Block} → Reads s n l k
       → ((i : ℕ) → n ≤ i → i < n + l → statementTyped s i ≡ true) ↔ Ok (context s) (header s .width) k

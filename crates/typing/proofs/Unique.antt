@@ -1,6 +1,7 @@
 -- No second answer fits: the contract of each public function leaves one result. Assumes nothing.
 use contract.Lifetimes.{Lfts}
-use Rattle.base.proofs.Unique.{OneAnswer, is-unique}
+use Rattle.base.specs.OneAnswer.{OneAnswer}
+use Rattle.base.proofs.Unique.{is-unique}
 use Rattle.typing.proofs as typing
 
 pub ops-unique :
@@ -14,18 +15,7 @@ pub ops-unique :
     × OneAnswer (typing.ops.ite.Reads.Post tt)
     × OneAnswer (typing.ops.extract.Reads.Post tt)
     × OneAnswer (typing.ops.concat.Reads.Post tt)
-ops-unique = (
-  λ a x y s t. is-unique,
-  λ a x y s t. is-unique,
-  λ a x y s t. is-unique,
-  λ a x y s t. is-unique,
-  λ a x y s t. is-unique,
-  λ a x y s t. is-unique,
-  λ a x y s t. is-unique,
-  λ a x y s t. is-unique,
-  λ a x y s t. is-unique,
-  λ a x y s t. is-unique,
-)
+ops-unique = search is-unique
 
 pub by-op-unique : (lent : Lfts 1) →
     OneAnswer (typing.by_op.declared.Reads.Post tt)
@@ -35,12 +25,4 @@ pub by-op-unique : (lent : Lfts 1) →
     × OneAnswer (typing.by_op.one.Reads.Post tt)
     × OneAnswer (typing.by_op.two.Reads.Post lent)
     × OneAnswer (typing.by_op.three.Reads.Post tt)
-by-op-unique lent = (
-  λ a x y s t. is-unique,
-  λ a x y s t. is-unique,
-  λ a x y s t. is-unique,
-  λ a x y s t. is-unique,
-  λ a x y s t. is-unique,
-  λ a x y s t. is-unique,
-  λ a x y s t. is-unique,
-)
+by-op-unique lent = search is-unique

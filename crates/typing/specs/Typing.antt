@@ -1,4 +1,5 @@
--- The typing rules of 002, one constructor each under its name. `narrowed` and `completed` mark where paper 01 narrows a rule of
+-- "Types are T_VAR to T_CONCAT of 002": its typing rules, one constructor each under its name. A name that the public copy has lost is made
+-- like its neighbours' (docs/READING.md, 'From 002 to the definitions'). `narrowed` and `completed` mark where paper 01 narrows a rule of
 -- 002 or completes one that the public copy has lost. Assumes nothing.
 use mathlib.Core.Bool.{Bool}
 use mathlib.Core.List.{List}
@@ -41,7 +42,7 @@ pub data _⊢_∶_ (Γ : Context) : Expr → ValueType → Type 0 where
 
 -- Γ ⊢ bil is ok, for a block (T_SEQ_ONE, T_SEQ_REC) of statements, with A the table's address width:
 -- "A moved expression has its variable's type; guards are 1 bit; a jump is A bits." completed: the public copy has lost the rules of
--- while and if.
+-- special, while and if.
 pub data Ok (Γ : Context) (A : ℕ) : Block → Type 0 where
   T-END : Ok Γ A S.end
   T-MOVE : {n x : ℕ} {e : Expr} {k : Block} → Γ ⊢ e ∶ Γ .type x → Ok Γ A k → Ok Γ A (S.move n x e k)

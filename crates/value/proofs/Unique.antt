@@ -1,6 +1,7 @@
 -- No second answer fits: the contract of each public function leaves one result. Assumes nothing.
 use mathlib.Core.Path.{_≡_}
-use Rattle.base.proofs.Unique.{OneAnswer, is-unique}
+use Rattle.base.specs.OneAnswer.{OneAnswer}
+use Rattle.base.proofs.Unique.{is-unique}
 use Rattle.value.specs.declared.ValueType.{ValueType}
 use Rattle.value.specs.declared.Value.{Value}
 use Rattle.value.specs.Values.{Yields}
@@ -13,7 +14,7 @@ pub types-unique :
     OneAnswer (value.binary_width.Reads.Post tt)
     × OneAnswer (value.ValueType.size.Reads.Post tt)
     × OneAnswer (value.Value.type_of.Reads.Post tt)
-types-unique = (λ a x y s t. is-unique, λ a x y s t. is-unique, λ a x y s t. is-unique)
+types-unique = search is-unique
 
 pub operations-unique :
     OneAnswer (value.Value.binary.Reads.Post tt)
@@ -22,11 +23,4 @@ pub operations-unique :
     × OneAnswer (value.Value.extract.Reads.Post tt)
     × OneAnswer (value.Value.concat.Reads.Post tt)
     × OneAnswer (value.Value.choose.Reads.Post tt)
-operations-unique = (
-  λ a x y s t. yields-unique,
-  λ a x y s t. yields-unique,
-  λ a x y s t. yields-unique,
-  λ a x y s t. yields-unique,
-  λ a x y s t. yields-unique,
-  λ a x y s t. yields-unique,
-)
+operations-unique = search yields-unique

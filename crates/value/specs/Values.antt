@@ -1,5 +1,7 @@
 -- Values and the operations on them: "A value is a word, unknown, or a memory. Unknown keeps its type."
--- The names in capitals are rules of 002. Laws stand in proofs/. Assumes nothing.
+-- The names in capitals are rules of 002. Its public copy has lost some of these names (those of the single operations, the unary ones, casts to
+-- unknown and high, extract and concat): they are named as their neighbours are (docs/READING.md, 'From 002 to the definitions'). Laws stand in
+-- proofs/. Assumes nothing.
 use mathlib.Core.Path.{_≡_}
 use Prim.Native.Nat.{ℕ, _+_, _-_}
 use lib.Dec.{eqb}
@@ -51,13 +53,14 @@ computed w (CV.Word r) = Word w r
 computed w CV.Unknown = Unknown (Imm w)
 
 -- ------------------------------------------------------------------------------------------------
--- "If any operand of ops 5, 6, 7, 11, 12 is unknown, so is the result."
+-- "If any operand of ops 5, 6, 7, 11, 12 is unknown, so is the result"
 -- What an operation of the wrong type gives is unknown too; an accepted table has none.
 
--- op 5 (AOP_UNK_RHS, AOP_UNK_LHS, LOP_UNK_RHS, LOP_UNK_LHS, PLUS to SLE)
+-- the type of what op 5 gives
 abbrev pub binaryType : ℕ → ValueType → ValueType
 binaryType sub t = Imm (Subs.binaryWidth sub (size t))
 
+-- op 5 (AOP_UNK_RHS, AOP_UNK_LHS, LOP_UNK_RHS, LOP_UNK_LHS, PLUS to SLE)
 abbrev pub binary : ℕ → Value → Value → Value
 binary sub (Word w a) (Word v b) = computed (Subs.binaryWidth sub w) (Subs.binary sub w a b)
 binary sub (Word w a) (Unknown t) = Unknown (binaryType sub (Imm w))
@@ -83,10 +86,11 @@ extract p q (Word w a) = Word (p - q + 1) (Words.extract p q a)
 extract p q (Unknown t) = Unknown (Imm (p - q + 1))
 extract p q (Memory w head) = Unknown (Imm (p - q + 1))
 
--- op 12 (CONCAT_RHS_UN, CONCAT_LHS_UN, CONCAT)
+-- the type of what op 12 gives
 abbrev pub concatType : ValueType → ValueType → ValueType
 concatType t u = Imm (size t + size u)
 
+-- op 12 (CONCAT_RHS_UN, CONCAT_LHS_UN, CONCAT)
 abbrev pub concat : Value → Value → Value
 concat (Word w a) (Word v b) = Word (w + v) (Words.concat v a b)
 concat (Word w a) (Unknown u) = Unknown (concatType (Imm w) u)

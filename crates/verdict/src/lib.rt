@@ -10,12 +10,12 @@ ghost use Rattle.sealing.specs.Verdict as Sealing;
 ghost use Rattle.typing.specs.Verdict as Typing;
 ghost use Rattle.typing.specs.Verdict.{typeRules};
 use base::Answer;
-use forest::rules::forest_ok;
 use reader::reads;
-use sealcheck::verdict::seals_ok;
+use scope::rules::forest_ok;
+use sealcheck::rules::seals_ok;
 use table::Header;
 use table::bytes::header;
-use typecheck::verdict::types_ok;
+use typecheck::rules::types_ok;
 
 // The first of refusals 8 to 13 that comes.
 fn forest_and_types(s: &[u8], h: Header) -> Answer

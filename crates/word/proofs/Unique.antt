@@ -1,7 +1,8 @@
 -- No second answer fits: the contract of each public function leaves one result. Assumes nothing.
 use mathlib.Core.Path.{_≡_}
 use Prim.Native.Nat.{ℕ}
-use Rattle.base.proofs.Unique.{OneAnswer, is-unique}
+use Rattle.base.specs.OneAnswer.{OneAnswer}
+use Rattle.base.proofs.Unique.{is-unique}
 use Rattle.word.specs.declared.Computed.{Computed}
 use Rattle.word.specs.Words.{Gives, Computes}
 use Rattle.word.proofs as word
@@ -31,20 +32,20 @@ pub arithmetic-unique :
     × OneAnswer (word.arithmetic.minus.Reads.Post tt)
     × OneAnswer (word.arithmetic.times.Reads.Post tt)
     × OneAnswer (word.arithmetic.neg.Reads.Post tt)
-arithmetic-unique = (λ a x y s t. gives-unique, λ a x y s t. gives-unique, λ a x y s t. gives-unique, λ a x y s t. gives-unique)
+arithmetic-unique = search gives-unique
 
 pub bits-unique :
     OneAnswer (word.bits.and.Reads.Post tt)
     × OneAnswer (word.bits.or.Reads.Post tt)
     × OneAnswer (word.bits.xor.Reads.Post tt)
     × OneAnswer (word.bits.not.Reads.Post tt)
-bits-unique = (λ a x y s t. gives-unique, λ a x y s t. gives-unique, λ a x y s t. gives-unique, λ a x y s t. gives-unique)
+bits-unique = search gives-unique
 
 pub shift-unique :
     OneAnswer (word.shift.lsl.Reads.Post tt)
     × OneAnswer (word.shift.lsr.Reads.Post tt)
     × OneAnswer (word.shift.asr.Reads.Post tt)
-shift-unique = (λ a x y s t. gives-unique, λ a x y s t. gives-unique, λ a x y s t. gives-unique)
+shift-unique = search gives-unique
 
 pub compare-unique :
     OneAnswer (word.compare.eq.Reads.Post tt)
@@ -53,36 +54,29 @@ pub compare-unique :
     × OneAnswer (word.compare.le.Reads.Post tt)
     × OneAnswer (word.compare.slt.Reads.Post tt)
     × OneAnswer (word.compare.sle.Reads.Post tt)
-compare-unique = (
-  λ a x y s t. gives-unique,
-  λ a x y s t. gives-unique,
-  λ a x y s t. gives-unique,
-  λ a x y s t. gives-unique,
-  λ a x y s t. gives-unique,
-  λ a x y s t. gives-unique,
-)
+compare-unique = search gives-unique
 
 pub division-unique :
     OneAnswer (word.division.div.Reads.Post tt)
     × OneAnswer (word.division.modulo.Reads.Post tt)
     × OneAnswer (word.division.sdiv.Reads.Post tt)
     × OneAnswer (word.division.smod.Reads.Post tt)
-division-unique = (λ a x y s t. computes-unique, λ a x y s t. computes-unique, λ a x y s t. computes-unique, λ a x y s t. computes-unique)
+division-unique = search computes-unique
 
 pub casts-unique :
     OneAnswer (word.casts.low.Reads.Post tt)
     × OneAnswer (word.casts.high.Reads.Post tt)
     × OneAnswer (word.casts.signed.Reads.Post tt)
     × OneAnswer (word.casts.unsigned.Reads.Post tt)
-casts-unique = (λ a x y s t. gives-unique, λ a x y s t. gives-unique, λ a x y s t. gives-unique, λ a x y s t. gives-unique)
+casts-unique = search gives-unique
 
 pub join-unique :
     OneAnswer (word.join.extract.Reads.Post tt)
     × OneAnswer (word.join.concat.Reads.Post tt)
-join-unique = (λ a x y s t. gives-unique, λ a x y s t. gives-unique)
+join-unique = search gives-unique
 
 pub subs-unique :
     OneAnswer (word.binary.Reads.Post tt)
     × OneAnswer (word.unary.Reads.Post tt)
     × OneAnswer (word.cast.Reads.Post tt)
-subs-unique = (λ a x y s t. computes-unique, λ a x y s t. computes-unique, λ a x y s t. computes-unique)
+subs-unique = search computes-unique

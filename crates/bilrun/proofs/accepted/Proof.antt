@@ -7,10 +7,10 @@ use lib.ListN.{length, take, replicate, length-replicate}
 use Rattle.table.specs.declared.Header.{Header}
 use Rattle.table.specs.Bytes.{header}
 use Rattle.table.specs.Records.{Framed}
+use Rattle.verdict.proofs.CheckLaws.{checked}
 use Rattle.report.specs.Lines.{sealWord}
 use Rattle.report.specs.Placed.{Adds}
 use Rattle.report.proofs.PlacedLaws.{then-adds, adds-long}
-use Rattle.bilrun.proofs.CheckedLaws.{checked-framed}
 use Rattle.bilrun.proofs.ReportLaws.{take-replicate, answer-text, accepted-text}
 use borrow.Author.Needs.{needs}
 use Rattle.bilrun.proofs.accepted.Statement.{statement}
@@ -18,7 +18,7 @@ use Rattle.bilrun.proofs.accepted.Tie as tie
 
 header-requires : tie.Need-header-requires
 header-requires c κs =
-    omega (arith, checked-framed (c .before .before .args .table .now) (c .before .before .pre .0) .whole)
+    omega (arith, checked (c .before .before .args .table .now) (c .before .before .pre .0) .framed .whole)
 
 seal-check-requires : tie.Need-seal-check-requires
 seal-check-requires c κs = search needs
@@ -44,7 +44,7 @@ mul-size c = search needs
 array-borrow-prefix-state : tie.Need-array-borrow-prefix-state
 array-borrow-prefix-state c =
     let s = c .before .before .before .before .before .before .before .before .before .before .before .before in
-    let framed = checked-framed (s .args .table .now) (s .pre .0) in
+    let framed = checked (s .args .table .now) (s .pre .0) .framed in
     let h : c .before .before .before .before .before .before .before .before .before .header .result .variables ≡ header (s .args .table .now) .variables = ap (λ (k : Header). k .variables) (c .before .before .before .before .before .before .before .before .before .header .ensures) in
     let most = framed .variables in
     omega arith
@@ -52,7 +52,7 @@ array-borrow-prefix-state c =
 slice-aggregate-ran : tie.Need-slice-aggregate-ran
 slice-aggregate-ran c =
     let s = c .before .before .before .before .before .before .before .before .before .before .before .before .before in
-    let framed = checked-framed (s .args .table .now) (s .pre .0) in
+    let framed = checked (s .args .table .now) (s .pre .0) .framed in
     let h : c .before .before .before .before .before .before .before .before .before .before .header .result .variables ≡ header (s .args .table .now) .variables = ap (λ (k : Header). k .variables) (c .before .before .before .before .before .before .before .before .before .before .header .ensures) in
     let most = framed .variables in
     sym (ap length (take-replicate (2 * c .before .before .before .before .before .before .before .before .before .before .header .result .variables) 512 (omega arith)) ∙ length-replicate {A = ℕ} (2 * c .before .before .before .before .before .before .before .before .before .before .header .result .variables) 0)
@@ -63,7 +63,7 @@ slice-aggregate-ran-2 c = search needs
 ran-requires : tie.Need-ran-requires
 ran-requires c κs =
     let s = c .before .before .before .before .before .before .before .before .before .before .before .before .before .before .before in
-    let framed = checked-framed (s .args .table .now) (s .pre .0) in
+    let framed = checked (s .args .table .now) (s .pre .0) .framed in
     let h : c .before .before .before .before .before .before .before .before .before .before .before .before .header .result .variables ≡ header (s .args .table .now) .variables = ap (λ (k : Header). k .variables) (c .before .before .before .before .before .before .before .before .before .before .before .before .header .ensures) in
     let most = framed .variables in
     let near = c .before .before .before .before .before .before .answer-line .ensures .near in

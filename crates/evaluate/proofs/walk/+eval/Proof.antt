@@ -24,9 +24,9 @@ use Rattle.operation.specs.declared.order.Steps.the-variants.{Leaf, One, Two, L
 use Rattle.operation.specs.Order.{stepsOf}
 use Rattle.operation.specs.Outcome.{Leaves}
 use Rattle.evaluate.specs.Ready.{Ready}
-use Rattle.evaluate.proofs.ArmLaws.{Call, At, next, long, at-once-asks, at-once-leaves, walked, leaf-asks, leaf-leaves, one-below, one-asks, one-leaves, two-below, two-asks, two-leaves, two-stops}
-use Rattle.evaluate.proofs.ArmLaws.{let-below, let-asks, let-ready, let-leaves, let-full, let-stops}
-use Rattle.evaluate.proofs.ArmLaws.{three-below, three-ready, three-asks, three-leaves, three-stops, three-stops-second}
+use Rattle.evaluate.proofs.ArmLaws.{Call, At, below, next, long, at-once-asks, at-once-leaves, walked, leaf-asks, leaf-leaves, one-asks, one-leaves, two-asks, two-leaves, two-stops}
+use Rattle.evaluate.proofs.ArmLaws.{let-asks, let-ready, let-leaves, let-full, let-stops}
+use Rattle.evaluate.proofs.ArmLaws.{three-ready, three-asks, three-leaves, three-stops, three-stops-second}
 use borrow.Author.Needs.{needs}
 use borrow.Fn.Kinds.{In}
 use borrow.Fn.PlainCycle.{Measures, is, falls, and}
@@ -56,9 +56,6 @@ eval-below t = and 3 eval-kinds.ps (falls 3 eval-kinds.ps _<_ μ-eval t) eval.Pr
 
 abbrev eval-claims : ℕ → eval-lts.Claims
 eval-claims t = (header-reads.Asked, header-reads.Learnt, expression-reads.Asked, expression-reads.Learnt, steps-of-reads.Asked, steps-of-reads.Learnt, leaf-reads.Asked, leaf-reads.Learnt, at-once-reads.Asked, at-once-reads.Learnt, eval-below t, eval.Post, one-reads.Asked, one-reads.Learnt, two-reads.Asked, two-reads.Learnt, with-reads.Asked, with-reads.Learnt, three-reads.Asked, three-reads.Learnt)
-
-eval-header-requires : (t : ℕ) → eval-lts.Need-header-requires (eval-claims t) (eval-at t) eval.Post
-eval-header-requires t c κs = omega (arith, c .before .before .before .pre .1 .0 .framed .whole)
 
 eval-expression-requires : (t : ℕ) → eval-lts.Need-expression-requires (eval-claims t) (eval-at t) eval.Post
 eval-expression-requires t c κs =
@@ -121,6 +118,10 @@ module _ (t : ℕ) (c : Met t) where
       let m : number ≡ t = c .before .before .before .before .before .before .pre .0 in
       (omega arith, (r, lower k h))
 
+  -- what leaves the evaluation of the whole leaves the buffer's length
+  kept : {e : Evaluated} {l : List ℕ} → Leaves log whole e l → length l ≡ length log
+  kept left = long ready number inside left
+
   abbrev frame : Header
   frame = c .before .before .header .result
 
@@ -170,7 +171,7 @@ one-first : (t : ℕ) (f : One-first t)
 one-first t f =
     let m = one-met t f in
     ⊎-elim
-    (λ w. at-once-leaves (ready t m) (lower t m _ (one-below (here t m) (one-way t f))) (f .before .at-once .ensures) (w .1 .given .1) (w .3) (w .4))
+    (λ w. at-once-leaves (ready t m) (lower t m _ (below (here t m) (one-way t f))) (f .before .at-once .ensures) (w .1 .given .1) (w .3) (w .4))
     (λ w. walked (w .3 .ensures) (w .6) (w .7)) (f .match2 .came)
 
 abbrev Two-first : ℕ → Type 0
@@ -187,7 +188,7 @@ two-first : (t : ℕ) (f : Two-first t)
 two-first t f =
     let m = two-met t f in
     ⊎-elim
-    (λ w. at-once-leaves (ready t m) (lower t m _ (two-below (here t m) (two-way t f) .0)) (f .before .at-once2 .ensures) (w .1 .given .1) (w .3) (w .4))
+    (λ w. at-once-leaves (ready t m) (lower t m _ (below (here t m) (two-way t f) .0)) (f .before .at-once2 .ensures) (w .1 .given .1) (w .3) (w .4))
     (λ w. walked (w .3 .ensures) (w .6) (w .7)) (f .match3 .came)
 
 abbrev Let-first : ℕ → Type 0
@@ -204,7 +205,7 @@ let-first : (t : ℕ) (f : Let-first t)
 let-first t f =
     let m = let-met t f in
     ⊎-elim
-    (λ w. at-once-leaves (ready t m) (lower t m _ (let-below (here t m) (let-way t f) .0)) (f .before .at-once4 .ensures) (w .1 .given .1) (w .3) (w .4))
+    (λ w. at-once-leaves (ready t m) (lower t m _ (below (here t m) (let-way t f) .0)) (f .before .at-once4 .ensures) (w .1 .given .1) (w .3) (w .4))
     (λ w. walked (w .3 .ensures) (w .6) (w .7)) (f .match6 .came)
 
 abbrev Three-first : ℕ → Type 0
@@ -221,7 +222,7 @@ three-first : (t : ℕ) (f : Three-first t)
 three-first t f =
     let m = three-met t f in
     ⊎-elim
-    (λ w. at-once-leaves (ready t m) (lower t m _ (three-below (here t m) (three-way t f) .0)) (f .before .at-once5 .ensures) (w .1 .given .1) (w .3) (w .4))
+    (λ w. at-once-leaves (ready t m) (lower t m _ (below (here t m) (three-way t f) .0)) (f .before .at-once5 .ensures) (w .1 .given .1) (w .3) (w .4))
     (λ w. walked (w .3 .ensures) (w .6) (w .7)) (f .match8 .came)
 
 -- and the second
@@ -238,7 +239,7 @@ two-next : (t : ℕ) (f : Two-first t) {v : Value} {n : ℕ} → f .match3 .e �
     → Ready (table t (two-met t f)) (state t (two-met t f)) (f .match3 .log) (bindings t (two-met t f)) n
 two-next t f e =
     let m = two-met t f in
-    next (ready t m) _ (lower t m _ (two-below (here t m) (two-way t f) .0)) (two-first t f) e
+    next (ready t m) _ (lower t m _ (below (here t m) (two-way t f) .0)) (two-first t f) e
 
 two-second : (t : ℕ) (g : Two-second t)
     → Call (table t (two-met t (two-of t g))) (state t (two-met t (two-of t g))) (two-of t g .match3 .log)
@@ -248,7 +249,7 @@ two-second t g =
     let f = two-of t g in
     let m = two-met t f in
     ⊎-elim
-    (λ w. at-once-leaves (two-next t f (two-value t g)) (lower t m _ (two-below (here t m) (two-way t f) .1)) (g .before .at-once3 .ensures) (w .1 .given .1) (w .3) (w .4))
+    (λ w. at-once-leaves (two-next t f (two-value t g)) (lower t m _ (below (here t m) (two-way t f) .1)) (g .before .at-once3 .ensures) (w .1 .given .1) (w .3) (w .4))
     (λ w. walked (w .3 .ensures) (w .6) (w .7)) (g .match5 .came)
 
 abbrev Three-second : ℕ → Type 0
@@ -257,24 +258,24 @@ Three-second t = eval-lts.At-match10-came (eval-claims t) (eval-at t) eval.Post
 abbrev three-of : (t : ℕ) → Three-second t → Three-first t
 three-of t g = g .before .before .before .before .before
 
-three-value : (t : ℕ) (g : Three-second t) → three-of t g .match8 .e ≡ Of (g .before .before .before .e5 .given .0 .0) (g .before .before .before .e5 .given .0 .1 .0)
-three-value t g = g .before .before .before .e5 .given .1
+three-value : (t : ℕ) (g : Three-second t) → three-of t g .match8 .e ≡ Of (g .before .before .before .e3 .given .0 .0) (g .before .before .before .e3 .given .0 .1 .0)
+three-value t g = g .before .before .before .e3 .given .1
 
 three-next : (t : ℕ) (f : Three-first t) {v : Value} {n : ℕ} → f .match8 .e ≡ Of v n
     → Ready (table t (three-met t f)) (state t (three-met t f)) (f .match8 .log) (bindings t (three-met t f)) n
 three-next t f e =
     let m = three-met t f in
-    next (ready t m) _ (lower t m _ (three-below (here t m) (three-way t f) .0)) (three-first t f) e
+    next (ready t m) _ (lower t m _ (below (here t m) (three-way t f) .0)) (three-first t f) e
 
 three-second : (t : ℕ) (g : Three-second t)
     → Call (table t (three-met t (three-of t g))) (state t (three-met t (three-of t g))) (three-of t g .match8 .log)
-    (bindings t (three-met t (three-of t g))) (g .before .before .before .e5 .given .0 .1 .0)
+    (bindings t (three-met t (three-of t g))) (g .before .before .before .e3 .given .0 .1 .0)
     (three-of t g .before .before .before .o4 .given .0 .1 .0) (g .match10 .f) (g .match10 .log)
 three-second t g =
     let f = three-of t g in
     let m = three-met t f in
     ⊎-elim
-    (λ w. at-once-leaves (three-next t f (three-value t g)) (lower t m _ (three-below (here t m) (three-way t f) .1)) (g .before .at-once6 .ensures) (w .1 .given .1) (w .3) (w .4))
+    (λ w. at-once-leaves (three-next t f (three-value t g)) (lower t m _ (below (here t m) (three-way t f) .1)) (g .before .at-once6 .ensures) (w .1 .given .1) (w .3) (w .4))
     (λ w. walked (w .3 .ensures) (w .6) (w .7)) (g .match10 .came)
 
 -- and the third
@@ -303,52 +304,11 @@ three-third t h =
     let f = three-of t g in
     let m = three-met t f in
     ⊎-elim
-    (λ w. at-once-leaves (third-ready t g (second-value t h)) (lower t m _ (three-below (here t m) (three-way t f) .2)) (h .before .at-once7 .ensures) (w .1 .given .1) (w .3) (w .4))
+    (λ w. at-once-leaves (third-ready t g (second-value t h)) (lower t m _ (below (here t m) (three-way t f) .2)) (h .before .at-once7 .ensures) (w .1 .given .1) (w .3) (w .4))
     (λ w. walked (w .3 .ensures) (w .6) (w .7)) (h .match12 .came)
 
 -- ------------------------------------------------------------------------------------------------
 -- The calls and the ways
-
-eval-leaf-requires : (t : ℕ) → eval-lts.Need-leaf-requires (eval-claims t) (eval-at t) eval.Post
-eval-leaf-requires t c κs =
-    let m = c .before .before in
-    leaf-requires t m (c .enum-told .given .1)
-
-eval-at-once-requires : (t : ℕ) → eval-lts.Need-at-once-requires (eval-claims t) (eval-at t) eval.Post
-eval-at-once-requires t c κs =
-    let m = c .before .before .before in
-    looks t m _ (one-below (here t m) (ordered t m (c .before .o .given .1))) (ready t m)
-
-eval-eval-requires : (t : ℕ) → eval-lts.Need-eval-requires (eval-claims t) (eval-at t) eval.Post
-eval-eval-requires t c κs =
-    let m = c .before .before .before .before .before .before .before in
-    asked t m _ (one-below (here t m) (ordered t m (c .before .before .before .before .before .o .given .1))) (ready t m)
-
-eval-one-requires : (t : ℕ) → eval-lts.Need-one-requires (eval-claims t) (eval-at t) eval.Post
-eval-one-requires t c κs =
-    one-asks (here t (one-met t c)) (one-way t c) (one-first t c)
-
-eval-at-once-requires-2 : (t : ℕ) → eval-lts.Need-at-once-requires-2 (eval-claims t) (eval-at t) eval.Post
-eval-at-once-requires-2 t c κs =
-    let m = c .before .before .before in
-    looks t m _ (two-below (here t m) (ordered t m (c .before .o2 .given .1)) .0) (ready t m)
-
-eval-eval-requires-2 : (t : ℕ) → eval-lts.Need-eval-requires-2 (eval-claims t) (eval-at t) eval.Post
-eval-eval-requires-2 t c κs =
-    let m = c .before .before .before .before .before .before .before in
-    asked t m _ (two-below (here t m) (ordered t m (c .before .before .before .before .before .o2 .given .1)) .0) (ready t m)
-
-eval-at-once-requires-3 : (t : ℕ) → eval-lts.Need-at-once-requires-3 (eval-claims t) (eval-at t) eval.Post
-eval-at-once-requires-3 t c κs =
-    let f = c .before .before .before in
-    let m = two-met t f in
-    looks t m _ (two-below (here t m) (two-way t f) .1) (two-next t f (c .before .e .given .1))
-
-eval-eval-requires-3 : (t : ℕ) → eval-lts.Need-eval-requires-3 (eval-claims t) (eval-at t) eval.Post
-eval-eval-requires-3 t c κs =
-    let f = c .before .before .before .before .before .before .before in
-    let m = two-met t f in
-    asked t m _ (two-below (here t m) (two-way t f) .1) (two-next t f (c .before .before .before .before .before .e .given .1))
 
 eval-two-requires : (t : ℕ) → eval-lts.Need-two-requires (eval-claims t) (eval-at t) eval.Post
 eval-two-requires t c κs =
@@ -356,75 +316,12 @@ eval-two-requires t c κs =
     let f = two-of t g in
     two-asks (here t (two-met t f)) (two-way t f) (two-first t f) (two-value t g) (two-second t g)
 
-eval-at-once-requires-4 : (t : ℕ) → eval-lts.Need-at-once-requires-4 (eval-claims t) (eval-at t) eval.Post
-eval-at-once-requires-4 t c κs =
-    let m = c .before .before .before in
-    looks t m _ (let-below (here t m) (ordered t m (c .before .o3 .given .1)) .0) (ready t m)
-
-eval-eval-requires-4 : (t : ℕ) → eval-lts.Need-eval-requires-4 (eval-claims t) (eval-at t) eval.Post
-eval-eval-requires-4 t c κs =
-    let m = c .before .before .before .before .before .before .before in
-    asked t m _ (let-below (here t m) (ordered t m (c .before .before .before .before .before .o3 .given .1)) .0) (ready t m)
-
-eval-returns : (t : ℕ) → eval-lts.Need-returns (eval-claims t) (eval-at t) eval.Post
-eval-returns t c =
-    let f = c .before .before .before .before .before in
-    let m = let-met t f in
-    let-full (here t m) (let-way t f) (let-first t f) (c .before .before .before .e3 .given .1) (c .if1 .taken)
-
-eval-same-length : (t : ℕ) → eval-lts.Need-same-length (eval-claims t) (eval-at t) eval.Post
-eval-same-length t c =
-    let m = let-met t (c .before .before .before .before .before) in
-    long (ready t m) (number t m) (inside t m) (eval-returns t c)
-
 eval-with-requires : (t : ℕ) → eval-lts.Need-with-requires (eval-claims t) (eval-at t) eval.Post
 eval-with-requires t c κs =
     let f = c .before .before .before .before .before .before in
     let m = let-met t f in
-    let w = let-asks (here t m) (let-way t f) (let-first t f) (c .before .before .before .before .e3 .given .1) in
+    let w = let-asks (here t m) (let-way t f) (let-first t f) (c .before .before .before .before .e2 .given .1) in
     (c .before .if1 .left, (w .0, w .1))
-
-eval-eval-requires-5 : (t : ℕ) → eval-lts.Need-eval-requires-5 (eval-claims t) (eval-at t) eval.Post
-eval-eval-requires-5 t c κs =
-    let f = c .before .before .before .before .before .before .before in
-    let m = let-met t f in
-    asked t m _ (let-below (here t m) (let-way t f) .1) (let-ready (here t m) (let-way t f) (let-first t f) (c .before .before .before .before .before .e3 .given .1) (c .before .before .if1 .left) (c .with .ensures))
-
-eval-at-once-requires-5 : (t : ℕ) → eval-lts.Need-at-once-requires-5 (eval-claims t) (eval-at t) eval.Post
-eval-at-once-requires-5 t c κs =
-    let m = c .before .before .before in
-    looks t m _ (three-below (here t m) (ordered t m (c .before .o4 .given .1)) .0) (ready t m)
-
-eval-eval-requires-6 : (t : ℕ) → eval-lts.Need-eval-requires-6 (eval-claims t) (eval-at t) eval.Post
-eval-eval-requires-6 t c κs =
-    let m = c .before .before .before .before .before .before .before in
-    asked t m _ (three-below (here t m) (ordered t m (c .before .before .before .before .before .o4 .given .1)) .0) (ready t m)
-
-eval-at-once-requires-6 : (t : ℕ) → eval-lts.Need-at-once-requires-6 (eval-claims t) (eval-at t) eval.Post
-eval-at-once-requires-6 t c κs =
-    let f = c .before .before .before in
-    let m = three-met t f in
-    looks t m _ (three-below (here t m) (three-way t f) .1) (three-next t f (c .before .e5 .given .1))
-
-eval-eval-requires-7 : (t : ℕ) → eval-lts.Need-eval-requires-7 (eval-claims t) (eval-at t) eval.Post
-eval-eval-requires-7 t c κs =
-    let f = c .before .before .before .before .before .before .before in
-    let m = three-met t f in
-    asked t m _ (three-below (here t m) (three-way t f) .1) (three-next t f (c .before .before .before .before .before .e5 .given .1))
-
-eval-at-once-requires-7 : (t : ℕ) → eval-lts.Need-at-once-requires-7 (eval-claims t) (eval-at t) eval.Post
-eval-at-once-requires-7 t c κs =
-    let g = c .before .before .before in
-    let f = three-of t g in
-    let m = three-met t f in
-    looks t m _ (three-below (here t m) (three-way t f) .2) (third-ready t g (c .before .f .given .1))
-
-eval-eval-requires-8 : (t : ℕ) → eval-lts.Need-eval-requires-8 (eval-claims t) (eval-at t) eval.Post
-eval-eval-requires-8 t c κs =
-    let g = c .before .before .before .before .before .before .before in
-    let f = three-of t g in
-    let m = three-met t f in
-    asked t m _ (three-below (here t m) (three-way t f) .2) (third-ready t g (c .before .before .before .before .before .f .given .1))
 
 eval-three-requires : (t : ℕ) → eval-lts.Need-three-requires (eval-claims t) (eval-at t) eval.Post
 eval-three-requires t c κs =
@@ -433,169 +330,160 @@ eval-three-requires t c κs =
     let f = three-of t g in
     three-asks (here t (three-met t f)) (three-way t f) (three-first t f) (three-value t g) (three-second t g) (second-value t h) (three-third t h)
 
+eval-returns : (t : ℕ) → eval-lts.Need-returns (eval-claims t) (eval-at t) eval.Post
+eval-returns t c =
+    let f = c .before .before in
+    two-stops (here t (two-met t f)) (two-way t f) (two-first t f) (c .enum-told4 .given .1)
+
 eval-returns-2 : (t : ℕ) → eval-lts.Need-returns-2 (eval-claims t) (eval-at t) eval.Post
 eval-returns-2 t c =
-    let m = c .before .before .before in
-    leaf-leaves (here t m) (ordered t m (c .before .enum-told .given .1)) (c .leaf .ensures)
+    let f = c .before .before in
+    let-stops (here t (let-met t f)) (let-way t f) (let-first t f) (c .enum-told7 .given .1)
 
 eval-returns-3 : (t : ℕ) → eval-lts.Need-returns-3 (eval-claims t) (eval-at t) eval.Post
 eval-returns-3 t c =
+    let f = c .before .before .before .before .before in
+    let m = let-met t f in
+    let-full (here t m) (let-way t f) (let-first t f) (c .before .before .before .e2 .given .1) (c .if1 .taken)
+
+eval-returns-4 : (t : ℕ) → eval-lts.Need-returns-4 (eval-claims t) (eval-at t) eval.Post
+eval-returns-4 t c =
+    let f = c .before .before in
+    three-stops (here t (three-met t f)) (three-way t f) (three-first t f) (c .enum-told9 .given .1)
+
+eval-returns-5 : (t : ℕ) → eval-lts.Need-returns-5 (eval-claims t) (eval-at t) eval.Post
+eval-returns-5 t c =
+    let g = c .before .before in
+    let f = three-of t g in
+    three-stops-second (here t (three-met t f)) (three-way t f) (three-first t f) (three-value t g) (three-second t g) (c .enum-told11 .given .1)
+
+eval-returns-6 : (t : ℕ) → eval-lts.Need-returns-6 (eval-claims t) (eval-at t) eval.Post
+eval-returns-6 t c =
+    let m = c .before .before .before in
+    leaf-leaves (here t m) (ordered t m (c .before .enum-told .given .1)) (c .leaf .ensures)
+
+eval-returns-7 : (t : ℕ) → eval-lts.Need-returns-7 (eval-claims t) (eval-at t) eval.Post
+eval-returns-7 t c =
     let f = c .before in
     let m = one-met t f in
     subst (λ (v : Evaluated). Leaves (log t m) (whole t m) v (f .match2 .log)) (sym (c .one .ensures)) (one-leaves (here t m) (one-way t f) (one-first t f))
 
-eval-same-length-2 : (t : ℕ) → eval-lts.Need-same-length-2 (eval-claims t) (eval-at t) eval.Post
-eval-same-length-2 t c =
-    let m = one-met t (c .before) in
-    long (ready t m) (number t m) (inside t m) (eval-returns-3 t c)
-
-eval-returns-4 : (t : ℕ) → eval-lts.Need-returns-4 (eval-claims t) (eval-at t) eval.Post
-eval-returns-4 t c =
+eval-returns-8 : (t : ℕ) → eval-lts.Need-returns-8 (eval-claims t) (eval-at t) eval.Post
+eval-returns-8 t c =
     let g = c .before .before in
     let f = two-of t g in
     let m = two-met t f in
     subst (λ (v : Evaluated). Leaves (log t m) (whole t m) v (g .match5 .log)) (sym (c .two .ensures))
     (two-leaves (here t m) (two-way t f) (two-first t f) (two-value t g) (two-second t g))
 
-eval-same-length-3 : (t : ℕ) → eval-lts.Need-same-length-3 (eval-claims t) (eval-at t) eval.Post
-eval-same-length-3 t c =
-    let m = two-met t (two-of t (c .before .before)) in
-    long (ready t m) (number t m) (inside t m) (eval-returns-4 t c)
-
-eval-returns-5 : (t : ℕ) → eval-lts.Need-returns-5 (eval-claims t) (eval-at t) eval.Post
-eval-returns-5 t c =
-    let f = c .before .before .before in
-    two-stops (here t (two-met t f)) (two-way t f) (two-first t f) (c .before .e2 .given .1)
-
-eval-same-length-4 : (t : ℕ) → eval-lts.Need-same-length-4 (eval-claims t) (eval-at t) eval.Post
-eval-same-length-4 t c =
-    let m = two-met t (c .before .before .before) in
-    long (ready t m) (number t m) (inside t m) (eval-returns-5 t c)
-
-eval-returns-6 : (t : ℕ) → eval-lts.Need-returns-6 (eval-claims t) (eval-at t) eval.Post
-eval-returns-6 t c =
+eval-returns-9 : (t : ℕ) → eval-lts.Need-returns-9 (eval-claims t) (eval-at t) eval.Post
+eval-returns-9 t c =
     let f = c .before .before .before .before .before .before .before .before .before .before in
     let m = let-met t f in
-    let-leaves (here t m) (let-way t f) (let-first t f) (c .before .before .before .before .before .before .before .before .e3 .given .1) (c .before .before .before .before .before .if1 .left) (c .before .before .before .with .ensures)
+    let-leaves (here t m) (let-way t f) (let-first t f) (c .before .before .before .before .before .before .before .before .e2 .given .1) (c .before .before .before .before .before .if1 .left) (c .before .before .before .with .ensures)
     (c .before .before .eval5 .ensures)
 
-eval-same-length-5 : (t : ℕ) → eval-lts.Need-same-length-5 (eval-claims t) (eval-at t) eval.Post
-eval-same-length-5 t c =
-    let m = let-met t (c .before .before .before .before .before .before .before .before .before .before) in
-    long (ready t m) (number t m) (inside t m) (eval-returns-6 t c)
-
-eval-returns-7 : (t : ℕ) → eval-lts.Need-returns-7 (eval-claims t) (eval-at t) eval.Post
-eval-returns-7 t c =
-    let f = c .before .before .before in
-    let-stops (here t (let-met t f)) (let-way t f) (let-first t f) (c .before .e4 .given .1)
-
-eval-same-length-6 : (t : ℕ) → eval-lts.Need-same-length-6 (eval-claims t) (eval-at t) eval.Post
-eval-same-length-6 t c =
-    let m = let-met t (c .before .before .before) in
-    long (ready t m) (number t m) (inside t m) (eval-returns-7 t c)
-
-eval-returns-8 : (t : ℕ) → eval-lts.Need-returns-8 (eval-claims t) (eval-at t) eval.Post
-eval-returns-8 t c =
+eval-returns-10 : (t : ℕ) → eval-lts.Need-returns-10 (eval-claims t) (eval-at t) eval.Post
+eval-returns-10 t c =
     let h = c .before .before .before .before in
     let g = second-of t h in
     let f = three-of t g in
     three-leaves (here t (three-met t f)) (three-way t f) (three-first t f) (three-value t g) (three-second t g) (second-value t h) (three-third t h)
     (c .before .before .three .ensures)
 
-eval-same-length-7 : (t : ℕ) → eval-lts.Need-same-length-7 (eval-claims t) (eval-at t) eval.Post
-eval-same-length-7 t c =
-    let m = three-met t (three-of t (second-of t (c .before .before .before .before))) in
-    long (ready t m) (number t m) (inside t m) (eval-returns-8 t c)
-
-eval-returns-9 : (t : ℕ) → eval-lts.Need-returns-9 (eval-claims t) (eval-at t) eval.Post
-eval-returns-9 t c =
-    let g = c .before .before .before in
-    let f = three-of t g in
-    three-stops-second (here t (three-met t f)) (three-way t f) (three-first t f) (three-value t g) (three-second t g) (c .before .f2 .given .1)
-
-eval-same-length-8 : (t : ℕ) → eval-lts.Need-same-length-8 (eval-claims t) (eval-at t) eval.Post
-eval-same-length-8 t c =
-    let m = three-met t (three-of t (c .before .before .before)) in
-    long (ready t m) (number t m) (inside t m) (eval-returns-9 t c)
-
-eval-returns-10 : (t : ℕ) → eval-lts.Need-returns-10 (eval-claims t) (eval-at t) eval.Post
-eval-returns-10 t c =
-    let f = c .before .before .before in
-    three-stops (here t (three-met t f)) (three-way t f) (three-first t f) (c .before .e6 .given .1)
-
-eval-same-length-9 : (t : ℕ) → eval-lts.Need-same-length-9 (eval-claims t) (eval-at t) eval.Post
-eval-same-length-9 t c =
-    let m = three-met t (c .before .before .before) in
-    long (ready t m) (number t m) (inside t m) (eval-returns-10 t c)
-
 pub +eval-spec : {M : Type 1} → statement M
 +eval-spec = close μ-eval λ t. eval-lts.spec (eval-claims t) (eval-at t) eval.Post
-    (eval-header-requires t)
+    (λ c κs. omega (arith, c .before .before .before .pre .1 .0 .framed .whole))
     (eval-expression-requires t)
     (λ c κs. search needs)
     (λ c. search needs)
-    (eval-leaf-requires t)
+    (λ c κs. let m = c .before .before in
+    leaf-requires t m (c .enum-told .given .1))
     (λ c. search needs)
-    (eval-at-once-requires t)
-    (λ c. search needs)
-    (λ c. search needs)
-    (eval-eval-requires t)
-    (eval-one-requires t)
-    (λ c. search needs)
-    (eval-at-once-requires-2 t)
+    (λ c κs. let m = c .before .before .before in
+    looks t m _ (below (here t m) (ordered t m (c .before .o .given .1))) (ready t m))
     (λ c. search needs)
     (λ c. search needs)
-    (eval-eval-requires-2 t)
+    (λ c κs. let m = c .before .before .before .before .before .before .before in
+    asked t m _ (below (here t m) (ordered t m (c .before .before .before .before .before .o .given .1))) (ready t m))
+    (λ c κs. one-asks (here t (one-met t c)) (one-way t c) (one-first t c))
     (λ c. search needs)
-    (eval-at-once-requires-3 t)
+    (λ c κs. let m = c .before .before .before in
+    looks t m _ (below (here t m) (ordered t m (c .before .o2 .given .1)) .0) (ready t m))
     (λ c. search needs)
     (λ c. search needs)
-    (eval-eval-requires-3 t)
+    (λ c κs. let m = c .before .before .before .before .before .before .before in
+    asked t m _ (below (here t m) (ordered t m (c .before .before .before .before .before .o2 .given .1)) .0) (ready t m))
+    (λ c. search needs)
+    (λ c. search needs)
+    (λ c. kept t (two-met t (c .before .before)) (eval-returns t c))
+    (eval-returns t)
+    (λ c κs. let f = c .before .before .before in
+    let m = two-met t f in
+    looks t m _ (below (here t m) (two-way t f) .1) (two-next t f (c .before .e .given .1)))
+    (λ c. search needs)
+    (λ c. search needs)
+    (λ c κs. let f = c .before .before .before .before .before .before .before in
+    let m = two-met t f in
+    asked t m _ (below (here t m) (two-way t f) .1) (two-next t f (c .before .before .before .before .before .e .given .1)))
     (eval-two-requires t)
     (λ c. search needs)
-    (λ c. search needs)
-    (eval-at-once-requires-4 t)
-    (λ c. search needs)
-    (λ c. search needs)
-    (eval-eval-requires-4 t)
-    (λ c. search needs)
-    (eval-same-length t)
-    (eval-returns t)
-    (eval-with-requires t)
-    (eval-eval-requires-5 t)
+    (λ c κs. let m = c .before .before .before in
+    looks t m _ (below (here t m) (ordered t m (c .before .o3 .given .1)) .0) (ready t m))
     (λ c. search needs)
     (λ c. search needs)
-    (eval-at-once-requires-5 t)
+    (λ c κs. let m = c .before .before .before .before .before .before .before in
+    asked t m _ (below (here t m) (ordered t m (c .before .before .before .before .before .o3 .given .1)) .0) (ready t m))
     (λ c. search needs)
     (λ c. search needs)
-    (eval-eval-requires-6 t)
-    (λ c. search needs)
-    (eval-at-once-requires-6 t)
-    (λ c. search needs)
-    (λ c. search needs)
-    (eval-eval-requires-7 t)
-    (λ c. search needs)
-    (eval-at-once-requires-7 t)
-    (λ c. search needs)
-    (λ c. search needs)
-    (eval-eval-requires-8 t)
-    (eval-three-requires t)
-    (λ c. search needs)
-    (λ c. search needs)
+    (λ c. kept t (let-met t (c .before .before)) (eval-returns-2 t c))
     (eval-returns-2 t)
-    (eval-same-length-2 t)
+    (λ c. kept t (let-met t (c .before .before .before .before .before)) (eval-returns-3 t c))
     (eval-returns-3 t)
-    (eval-same-length-3 t)
+    (eval-with-requires t)
+    (λ c κs. let f = c .before .before .before .before .before .before .before in
+    let m = let-met t f in
+    asked t m _ (below (here t m) (let-way t f) .1) (let-ready (here t m) (let-way t f) (let-first t f) (c .before .before .before .before .before .e2 .given .1) (c .before .before .if1 .left) (c .with .ensures)))
+    (λ c. search needs)
+    (λ c κs. let m = c .before .before .before in
+    looks t m _ (below (here t m) (ordered t m (c .before .o4 .given .1)) .0) (ready t m))
+    (λ c. search needs)
+    (λ c. search needs)
+    (λ c κs. let m = c .before .before .before .before .before .before .before in
+    asked t m _ (below (here t m) (ordered t m (c .before .before .before .before .before .o4 .given .1)) .0) (ready t m))
+    (λ c. search needs)
+    (λ c. search needs)
+    (λ c. kept t (three-met t (c .before .before)) (eval-returns-4 t c))
     (eval-returns-4 t)
-    (eval-same-length-4 t)
+    (λ c κs. let f = c .before .before .before in
+    let m = three-met t f in
+    looks t m _ (below (here t m) (three-way t f) .1) (three-next t f (c .before .e3 .given .1)))
+    (λ c. search needs)
+    (λ c. search needs)
+    (λ c κs. let f = c .before .before .before .before .before .before .before in
+    let m = three-met t f in
+    asked t m _ (below (here t m) (three-way t f) .1) (three-next t f (c .before .before .before .before .before .e3 .given .1)))
+    (λ c. search needs)
+    (λ c. search needs)
+    (λ c. kept t (three-met t (three-of t (c .before .before))) (eval-returns-5 t c))
     (eval-returns-5 t)
-    (eval-same-length-5 t)
+    (λ c κs. let g = c .before .before .before in
+    let f = three-of t g in
+    let m = three-met t f in
+    looks t m _ (below (here t m) (three-way t f) .2) (third-ready t g (c .before .f .given .1)))
+    (λ c. search needs)
+    (λ c. search needs)
+    (λ c κs. let g = c .before .before .before .before .before .before .before in
+    let f = three-of t g in
+    let m = three-met t f in
+    asked t m _ (below (here t m) (three-way t f) .2) (third-ready t g (c .before .before .before .before .before .f .given .1)))
+    (eval-three-requires t)
     (eval-returns-6 t)
-    (eval-same-length-6 t)
+    (λ c. kept t (one-met t (c .before)) (eval-returns-7 t c))
     (eval-returns-7 t)
-    (eval-same-length-7 t)
+    (λ c. kept t (two-met t (two-of t (c .before .before))) (eval-returns-8 t c))
     (eval-returns-8 t)
-    (eval-same-length-8 t)
+    (λ c. kept t (let-met t (c .before .before .before .before .before .before .before .before .before .before)) (eval-returns-9 t c))
     (eval-returns-9 t)
-    (eval-same-length-9 t)
+    (λ c. kept t (three-met t (three-of t (second-of t (c .before .before .before .before)))) (eval-returns-10 t c))
     (eval-returns-10 t)

@@ -2,22 +2,24 @@
 -- of the block is what is left to run, a while's loop that the while is. The measure is three times the ticks, and 2 more for a block, 1
 -- for a statement, 0 for a while's turns: a block and its statements may have the same ticks, and a body has fewer than its statement.
 -- Of what is known at a need, s is the start, l where the loop's test is met, m where the statement was run, g where the guard was
--- tested, b where the body was run. Assumes nothing.
-use mathlib.Core.Path.{sym, ap, subst, _∙_}
+-- tested, b where the body was run, q where the guard was found to hold. Assumes nothing.
+use mathlib.Core.Path.{_≡_, sym, ap, subst, _∙_}
 use native.Mathlib.Omega.{arith}
+use lib.ListN.{length}
 use borrow.Author.Needs.{needs}
 use Rattle.table.specs.declared.Header.{Header}
 use Rattle.table.specs.declared.Node.{Node}
 use Rattle.table.specs.Records.{Framed}
 use Rattle.table.specs.Decode.{blockAt}
 use Rattle.table.specs.Syntax.{Block}
+use Rattle.effect.specs.Leaving.{runs}
 use Rattle.effect.proofs.StandingLaws.{inside}
 use Rattle.effect.proofs.LeavingLaws.{ready}
 use Rattle.execute.specs.Extent.{bodiesOf}
-use Rattle.execute.proofs.EndedLaws.{runs, Came, came-first}
-use Rattle.execute.proofs.LoopLaws.{Going, going-first, end-small, block-ends, stands-at, bodies-before, block-goes-on, block-stops, block-refuses}
-use Rattle.execute.proofs.BodyLaws.{came-without, body-leaves, single-leaves, if-asks, if-then, if-else, if-stops, then-came, else-came}
-use Rattle.execute.proofs.BodyLaws.{while-asks, while-body, while-running, while-again, while-halts, while-refuses, while-fewer, while-fails, while-stops}
+use Rattle.execute.proofs.EndedLaws.{refuses, stops, Came, came-first}
+use Rattle.execute.proofs.LoopLaws.{Going, going-first, end-small, block-ends, stands-at, bodies-before, block-goes-on, block-halts}
+use Rattle.execute.proofs.BodyLaws.{Begun, guard-inside, came-without, single-leaves, if-stops, then-block, then-came, then-leaves, else-block, else-came, else-leaves}
+use Rattle.execute.proofs.BodyLaws.{while-body, while-running, while-again, while-halts, while-fewer, while-fails, while-stops}
 use Prim.Native.Nat.{ℕ, suc, _+_, _-_, _*_, _≤_, _<_}
 use borrow.Fn.Kinds.{In}
 use borrow.Fn.PlainCycle.{Measures, is, falls, and}
@@ -152,37 +154,34 @@ block-loop-again t c =
     (m .statement2 .ensures) (c .before .enum-told .given .1)
     (ap (λ (k : ℕ). l .loop .i + 1 + k) (c .bodies-of .ensures))
 
-block-same-length : (t : ℕ) → block-lts.Need-same-length (block-claims t) (block-at t) block.Post block-Inv-loop block-μ-loop
-block-same-length t c =
-    let m = c .before .before .before .before .before .before in
+-- where a statement was run: the state has its length
+block-long : (t : ℕ) (m : block-lts.After-statement2 (block-claims t) (block-at t) block.Post block-Inv-loop block-μ-loop)
+    → length (m .statement2 .last .1 .0) ≡ length (m .before .before .before .before .before .before .before .before .before .before .args .state .now)
+block-long t m =
     let l = m .before .before .before .before .before .before in
-    let s = l .before .before .before .before in
     let long = l .loop .inv .came .running .stands .state .size in
-    let start = s .pre .1 .0 .stands .state .size in
+    let start = l .before .before .before .before .pre .1 .0 .stands .state .size in
     m .statement2 .kept .1 .0 ∙ long ∙ sym start
+
+block-same-length : (t : ℕ) → block-lts.Need-same-length (block-claims t) (block-at t) block.Post block-Inv-loop block-μ-loop
+block-same-length t c = block-long t (c .before .before .before .before .before .before)
 
 block-returns : (t : ℕ) → block-lts.Need-returns (block-claims t) (block-at t) block.Post block-Inv-loop block-μ-loop
 block-returns t c =
     let m = c .before .before .before .before .before .before in
-    let l = m .before .before .before .before .before .before in
-    block-refuses (l .loop .inv) (m .before .before .before .before .before .loop-test .taken)
-    (m .before .before .before .statement .ensures) (m .statement2 .ensures) (c .enum-told2 .given .1)
+    let l = m .before .before .before .before .before in
+    block-halts (l .before .loop .inv) (l .loop-test .taken) (m .before .before .before .statement .ensures) (m .statement2 .ensures)
+    (refuses (c .enum-told2 .given .1))
 
 block-same-length-3 : (t : ℕ) → block-lts.Need-same-length-3 (block-claims t) (block-at t) block.Post block-Inv-loop block-μ-loop
-block-same-length-3 t c =
-    let m = c .before .before .before .before .before .before in
-    let l = m .before .before .before .before .before .before in
-    let s = l .before .before .before .before in
-    let long = l .loop .inv .came .running .stands .state .size in
-    let start = s .pre .1 .0 .stands .state .size in
-    m .statement2 .kept .1 .0 ∙ long ∙ sym start
+block-same-length-3 t c = block-long t (c .before .before .before .before .before .before)
 
 block-returns-2 : (t : ℕ) → block-lts.Need-returns-2 (block-claims t) (block-at t) block.Post block-Inv-loop block-μ-loop
 block-returns-2 t c =
     let m = c .before .before .before .before .before .before in
-    let l = m .before .before .before .before .before .before in
-    block-stops (l .loop .inv) (m .before .before .before .before .before .loop-test .taken)
-    (m .before .before .before .statement .ensures) (m .statement2 .ensures) (c .enum-told3 .given .1)
+    let l = m .before .before .before .before .before in
+    block-halts (l .before .loop .inv) (l .loop-test .taken) (m .before .before .before .statement .ensures) (m .statement2 .ensures)
+    (stops (c .enum-told3 .given .1))
 
 block-returns-3 : (t : ℕ) → block-lts.Need-returns-3 (block-claims t) (block-at t) block.Post block-Inv-loop block-μ-loop
 block-returns-3 t c =
@@ -216,42 +215,51 @@ statement-turns-requires t c κs =
 
 statement-test-requires : (t : ℕ) → statement-lts.Need-test-requires (statement-claims t) (statement-at t) statement′.Post
 statement-test-requires t c κs =
-    let s = c .before .before .before .before .before .before .before in
+    let p = c .before .before .before .before .before .before .before .pre .1 in
+    (ready (p .0), guard-inside (p .0 .records) (p .1 .0) (p .1 .1) (c .before .before .match .keys2) (omega arith))
+
+-- where an if's guard was tested
+if-begun : (t : ℕ) (g : statement-lts.After-test (statement-claims t) (statement-at t) statement′.Post)
+    → (let c = g .before .before .before .before .before .before .before .before in
+    let s = c .args in
+    Begun 6 (s .s .now) (s .log .now) (s .count) (s .ticks)
+    (runs (s .s .now) (s .state .now) (s .log .now) (s .count) (s .next) (s .ticks) (alone t c)) (s .i) (s .r)
+    (s .state .now) (s .log .now) (s .count) (s .next) (s .ticks) (g .test .result) (g .test .last .1 .1 .0))
+if-begun t g =
+    let s = g .before .before .before .before .before .before .before .before in
     let p = s .pre .1 in
-    (ready (p .0), if-asks (p .1 .0) (p .1 .1) (c .before .before .match .keys2) (begun t s))
+    let left = g .before .before .before .before .if1 .left in
+    record {
+      at = p .1 .0;
+      is = p .1 .1;
+      by = g .before .before .before .match .keys2;
+      came = begun t s;
+      some = omega arith;
+      tested = g .test .ensures;
+    }
 
 statement-block-requires : (t : ℕ) → statement-lts.Need-block-requires (statement-claims t) (statement-at t) statement′.Post
 statement-block-requires t c κs =
     let g = c .before .before .before .before .before .before .before in
-    let s = g .before .before .before .before .before .before .before .before in
-    let p = s .pre .1 in
-    let left = g .before .before .before .before .if1 .left in
-    let some : 0 < s .args .ticks = omega arith in
-    let came = then-came (p .1 .0) (p .1 .1) (g .before .before .before .match .keys2) (begun t s) some (g .test .ensures)
-    (c .before .before .before .g .given .1) in
-    let m = s .pre .0 in
-    (omega arith, (came .running, if-then (p .1 .0) (p .1 .1) (g .before .before .before .match .keys2) (begun t s)))
+    let h = if-begun t g in
+    let m = g .before .before .before .before .before .before .before .before .pre .0 in
+    let some = h .some in
+    (omega arith, (then-came h (c .before .before .before .g .given .1) .running, then-block h))
 
 statement-add-block-3 : (t : ℕ) → statement-lts.Need-add-block-3 (statement-claims t) (statement-at t) statement′.Post
 statement-add-block-3 t c =
     let g = c .before .before .before .before .before .before .before .before in
-    let s = g .before .before .before .before .before .before .before .before in
-    let p = s .pre .1 in
-    let few = if-else (p .1 .0) (p .1 .1) (g .before .before .before .match .keys2) (begun t s) .inside in
-    let most = p .0 .framed .statements in
+    let few = else-block (if-begun t g) .inside in
+    let most = g .before .before .before .before .before .before .before .before .pre .1 .0 .framed .statements in
     omega arith
 
 statement-block-requires-2 : (t : ℕ) → statement-lts.Need-block-requires-2 (statement-claims t) (statement-at t) statement′.Post
 statement-block-requires-2 t c κs =
     let g = c .before .before .before .before .before .before .before .before in
-    let s = g .before .before .before .before .before .before .before .before in
-    let p = s .pre .1 in
-    let left = g .before .before .before .before .if1 .left in
-    let some : 0 < s .args .ticks = omega arith in
-    let came = else-came (p .1 .0) (p .1 .1) (g .before .before .before .match .keys2) (begun t s) some (g .test .ensures)
-    (c .before .before .before .before .g2 .given .1) in
-    let m = s .pre .0 in
-    (omega arith, (came .running, if-else (p .1 .0) (p .1 .1) (g .before .before .before .match .keys2) (begun t s)))
+    let h = if-begun t g in
+    let m = g .before .before .before .before .before .before .before .before .pre .0 in
+    let some = h .some in
+    (omega arith, (else-came h (c .before .before .before .before .g2 .given .1) .running, else-block h))
 
 statement-single-requires : (t : ℕ) → statement-lts.Need-single-requires (statement-claims t) (statement-at t) statement′.Post
 statement-single-requires t c κs =
@@ -261,37 +269,19 @@ statement-single-requires t c κs =
 
 statement-returns-3 : (t : ℕ) → statement-lts.Need-returns-3 (statement-claims t) (statement-at t) statement′.Post
 statement-returns-3 t c =
-    let g = c .before .before .before .before .before .before .before .before .before .before .before .before in
-    let s = g .before .before .before .before .before .before .before .before in
-    let p = s .pre .1 in
-    let left = g .before .before .before .before .if1 .left in
-    let some : 0 < s .args .ticks = omega arith in
-    let came = then-came (p .1 .0) (p .1 .1) (g .before .before .before .match .keys2) (begun t s) some (g .test .ensures)
-    (c .before .before .before .before .before .before .before .before .g .given .1) in
-    body-leaves (s .args .i + 1) (s .args .r .b) (if-then (p .1 .0) (p .1 .1) (g .before .before .before .match .keys2) (begun t s)) came
-    (c .before .before .before .before .block .ensures)
+    let b = c .before .before .before .before in
+    let g = b .before .before .before .before .before .before .before .before in
+    then-leaves (if-begun t g) (b .before .before .before .before .g .given .1) (b .block .ensures)
 
 statement-returns-4 : (t : ℕ) → statement-lts.Need-returns-4 (statement-claims t) (statement-at t) statement′.Post
 statement-returns-4 t c =
-    let g = c .before .before .before .before .before .before .before .before .before .before .before .before .before in
-    let s = g .before .before .before .before .before .before .before .before in
-    let p = s .pre .1 in
-    let left = g .before .before .before .before .if1 .left in
-    let some : 0 < s .args .ticks = omega arith in
-    let came = else-came (p .1 .0) (p .1 .1) (g .before .before .before .match .keys2) (begun t s) some (g .test .ensures)
-    (c .before .before .before .before .before .before .before .before .before .g2 .given .1) in
-    body-leaves (s .args .i + 1 + s .args .r .b) (s .args .r .c) (if-else (p .1 .0) (p .1 .1) (g .before .before .before .match .keys2) (begun t s)) came
-    (c .before .before .before .before .block2 .ensures)
+    let b = c .before .before .before .before in
+    let g = b .before .before .before .before .before .before .before .before .before in
+    else-leaves (if-begun t g) (b .before .before .before .before .before .g2 .given .1) (b .block2 .ensures)
 
 statement-returns-5 : (t : ℕ) → statement-lts.Need-returns-5 (statement-claims t) (statement-at t) statement′.Post
 statement-returns-5 t c =
-    let g = c .before .before .before .before .before .before in
-    let s = g .before .before .before .before .before .before .before .before in
-    let p = s .pre .1 in
-    let left = g .before .before .before .before .if1 .left in
-    let some : 0 < s .args .ticks = omega arith in
-    if-stops (p .1 .0) (p .1 .1) (g .before .before .before .match .keys2) (begun t s) some (g .test .ensures)
-    (c .before .before .g3 .given .1) (c .stops-at2 .ensures)
+    if-stops (if-begun t (c .before .before .before .before .before .before)) (c .before .before .g3 .given .1) (c .stops-at2 .ensures)
 
 statement-returns-6 : (t : ℕ) → statement-lts.Need-returns-6 (statement-claims t) (statement-at t) statement′.Post
 statement-returns-6 t c =
@@ -321,108 +311,84 @@ turns-loop-holds t c =
 
 turns-test-requires : (t : ℕ) → turns-lts.Need-test-requires (turns-claims t) (turns-at t) turns.Post turns-Inv-loop turns-μ-loop
 turns-test-requires t c κs =
-    let s = c .before .before .before .before .before .before .before in
-    let p = s .pre .1 in
-    let inv = c .before .before .before .loop .inv in
-    (ready (inv .running), while-asks (p .1 .0) (p .1 .1 .0) (p .1 .1 .1) inv)
+    let p = c .before .before .before .before .before .before .before .pre .1 in
+    let here = c .before .before .before .loop .inv .running in
+    (ready here, guard-inside (here .records) (p .1 .0) (p .1 .1 .0) (p .1 .1 .1) (omega arith))
+
+-- where the guard was tested
+turn-begun : (t : ℕ) (g : turns-lts.After-test (turns-claims t) (turns-at t) turns.Post turns-Inv-loop turns-μ-loop)
+    → (let s = g .before .before .before .before .before .before .before .before .args in
+    let l = g .before .before .before .before .loop in
+    Begun 5 (s .s .now) (s .log .now) (s .count) (s .ticks)
+    (runs (s .s .now) (s .state .now) (s .log .now) (s .count) (s .next) (s .ticks) (blockAt (s .s .now) (s .i) (suc (bodiesOf (s .r))))) (s .i) (s .r)
+    (l .state) (l .log) (l .n) (l .a) (l .t) (g .test .result) (g .test .last .1 .1 .0))
+turn-begun t g =
+    let p = g .before .before .before .before .before .before .before .before .pre .1 in
+    record {
+      at = p .1 .0;
+      is = p .1 .1 .0;
+      by = p .1 .1 .1;
+      came = g .before .before .before .before .loop .inv;
+      some = g .before .before .before .loop-test .taken;
+      tested = g .test .ensures;
+    }
 
 turns-block-requires : (t : ℕ) → turns-lts.Need-block-requires (turns-claims t) (turns-at t) turns.Post turns-Inv-loop turns-μ-loop
 turns-block-requires t c κs =
     let g = c .before .before .before .before .before .before .before in
-    let s = g .before .before .before .before .before .before .before .before in
-    let p = s .pre .1 in
-    let inv = g .before .before .before .before .loop .inv in
-    let some = g .before .before .before .loop-test .taken in
-    let m = s .pre .0 in
-    let less = inv .fewer in (
-      omega arith,
-      (
-        while-running (p .1 .0) (p .1 .1 .0) (p .1 .1 .1) inv some (g .test .ensures) (c .before .before .before .g .given .1),
-        while-body (p .1 .0) (p .1 .1 .0) (p .1 .1 .1) inv,
-      ),
-    )
+    let h = turn-begun t g in
+    let m = g .before .before .before .before .before .before .before .before .pre .0 in
+    let less = h .came .fewer in
+    let some = h .some in
+    (omega arith, (while-running h (c .before .before .before .g .given .1), while-body h))
+
+-- where the body was run: the state has its length
+turns-long : (t : ℕ) (b : turns-lts.After-block (turns-claims t) (turns-at t) turns.Post turns-Inv-loop turns-μ-loop)
+    → (let g = b .before .before .before .before .before .before .before .before in
+    length (b .block .last .1 .0) ≡ length (g .before .before .before .before .before .before .before .before .args .state .now))
+turns-long t b =
+    let l = b .before .before .before .before .before .before .before .before .before .before .before .before in
+    let long = l .loop .inv .running .stands .state .size in
+    let start = l .before .before .before .before .pre .1 .0 .stands .state .size in
+    b .block .kept .1 .0 ∙ long ∙ sym start
 
 turns-loop-again : (t : ℕ) → turns-lts.Need-loop-again (turns-claims t) (turns-at t) turns.Post turns-Inv-loop turns-μ-loop
 turns-loop-again t c =
     let b = c .before .before .before .before .before .before in
-    let g = b .before .before .before .before .before .before .before .before in
-    let s = g .before .before .before .before .before .before .before .before in
-    let p = s .pre .1 in
-    let inv = g .before .before .before .before .loop .inv in
-    let some = g .before .before .before .loop-test .taken in
-    while-again (p .1 .0) (p .1 .1 .0) (p .1 .1 .1) inv some (g .test .ensures)
-    (b .before .before .before .before .g .given .1) (b .block .ensures) (c .enum-told .given .1)
+    let q = b .before .before .before .before in
+    while-again (turn-begun t (q .before .before .before .before)) (q .g .given .1) (b .block .ensures) (c .enum-told .given .1)
 
 turns-loop-less : (t : ℕ) → turns-lts.Need-loop-less (turns-claims t) (turns-at t) turns.Post turns-Inv-loop turns-μ-loop
 turns-loop-less t c =
     let b = c .before .before .before .before .before .before in
-    let g = b .before .before .before .before .before .before .before .before in
-    let s = g .before .before .before .before .before .before .before .before in
-    let p = s .pre .1 in
-    let inv = g .before .before .before .before .loop .inv in
-    let some = g .before .before .before .loop-test .taken in
-    while-fewer (p .1 .0) (p .1 .1 .0) (p .1 .1 .1) inv some (g .test .ensures)
-    (b .before .before .before .before .g .given .1) (b .block .ensures)
+    let q = b .before .before .before .before in
+    while-fewer (turn-begun t (q .before .before .before .before)) (q .g .given .1) (b .block .ensures)
 
 turns-same-length : (t : ℕ) → turns-lts.Need-same-length (turns-claims t) (turns-at t) turns.Post turns-Inv-loop turns-μ-loop
-turns-same-length t c =
-    let b = c .before .before .before .before .before .before in
-    let l = b .before .before .before .before .before .before .before .before .before .before .before .before in
-    let s = l .before .before .before .before in
-    let long = l .loop .inv .running .stands .state .size in
-    let start = s .pre .1 .0 .stands .state .size in
-    b .block .kept .1 .0 ∙ long ∙ sym start
+turns-same-length t c = turns-long t (c .before .before .before .before .before .before)
 
 turns-returns : (t : ℕ) → turns-lts.Need-returns (turns-claims t) (turns-at t) turns.Post turns-Inv-loop turns-μ-loop
 turns-returns t c =
     let b = c .before .before .before .before .before .before in
-    let g = b .before .before .before .before .before .before .before .before in
-    let s = g .before .before .before .before .before .before .before .before in
-    let p = s .pre .1 in
-    let inv = g .before .before .before .before .loop .inv in
-    let some = g .before .before .before .loop-test .taken in
-    while-refuses (p .1 .0) (p .1 .1 .0) (p .1 .1 .1) inv some (g .test .ensures)
-    (b .before .before .before .before .g .given .1) (b .block .ensures) (c .enum-told2 .given .1)
+    let q = b .before .before .before .before in
+    while-halts (turn-begun t (q .before .before .before .before)) (q .g .given .1) (b .block .ensures) (refuses (c .enum-told2 .given .1))
 
 turns-same-length-3 : (t : ℕ) → turns-lts.Need-same-length-3 (turns-claims t) (turns-at t) turns.Post turns-Inv-loop turns-μ-loop
-turns-same-length-3 t c =
-    let b = c .before .before .before .before .before .before in
-    let l = b .before .before .before .before .before .before .before .before .before .before .before .before in
-    let s = l .before .before .before .before in
-    let long = l .loop .inv .running .stands .state .size in
-    let start = s .pre .1 .0 .stands .state .size in
-    b .block .kept .1 .0 ∙ long ∙ sym start
+turns-same-length-3 t c = turns-long t (c .before .before .before .before .before .before)
 
 turns-returns-2 : (t : ℕ) → turns-lts.Need-returns-2 (turns-claims t) (turns-at t) turns.Post turns-Inv-loop turns-μ-loop
 turns-returns-2 t c =
     let b = c .before .before .before .before .before .before in
-    let g = b .before .before .before .before .before .before .before .before in
-    let s = g .before .before .before .before .before .before .before .before in
-    let p = s .pre .1 in
-    let inv = g .before .before .before .before .loop .inv in
-    let some = g .before .before .before .loop-test .taken in
-    while-halts (p .1 .0) (p .1 .1 .0) (p .1 .1 .1) inv some (g .test .ensures)
-    (b .before .before .before .before .g .given .1) (b .block .ensures) (c .enum-told3 .given .1)
+    let q = b .before .before .before .before in
+    while-halts (turn-begun t (q .before .before .before .before)) (q .g .given .1) (b .block .ensures) (stops (c .enum-told3 .given .1))
 
 turns-returns-3 : (t : ℕ) → turns-lts.Need-returns-3 (turns-claims t) (turns-at t) turns.Post turns-Inv-loop turns-μ-loop
 turns-returns-3 t c =
-    let g = c .before .before .before .before .before .before in
-    let s = g .before .before .before .before .before .before .before .before in
-    let p = s .pre .1 in
-    let inv = g .before .before .before .before .loop .inv in
-    let some = g .before .before .before .loop-test .taken in
-    while-fails (p .1 .0) (p .1 .1 .0) (p .1 .1 .1) inv some (g .test .ensures)
-    (c .before .before .g2 .given .1) (c .goes-on .ensures)
+    while-fails (turn-begun t (c .before .before .before .before .before .before)) (c .before .before .g2 .given .1) (c .goes-on .ensures)
 
 turns-returns-4 : (t : ℕ) → turns-lts.Need-returns-4 (turns-claims t) (turns-at t) turns.Post turns-Inv-loop turns-μ-loop
 turns-returns-4 t c =
-    let g = c .before .before .before .before .before .before in
-    let s = g .before .before .before .before .before .before .before .before in
-    let p = s .pre .1 in
-    let inv = g .before .before .before .before .loop .inv in
-    let some = g .before .before .before .loop-test .taken in
-    while-stops (p .1 .0) (p .1 .1 .0) (p .1 .1 .1) inv some (g .test .ensures)
-    (c .before .before .g3 .given .1) (c .stops-at .ensures)
+    while-stops (turn-begun t (c .before .before .before .before .before .before)) (c .before .before .g3 .given .1) (c .stops-at .ensures)
 
 turns-returns-5 : (t : ℕ) → turns-lts.Need-returns-5 (turns-claims t) (turns-at t) turns.Post turns-Inv-loop turns-μ-loop
 turns-returns-5 t c =

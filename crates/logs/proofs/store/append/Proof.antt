@@ -7,11 +7,10 @@ use native.Mathlib.Omega.{arith}
 use lib.ListN.{length, getD}
 use lib.Pow.{pow-mono}
 use lib.Seq.{sets}
-use Rattle.memory.specs.Log.{entrySize, entries}
+use Rattle.memory.specs.Log.{entrySize, entries, roomIn}
 use Rattle.memory.specs.Access as Access
 use Rattle.memory.specs.Access.{bytesIn, succ}
 use Rattle.memory.proofs.AccessKeeps.{length-bytesIn}
-use Rattle.logs.specs.Storing.{roomOf}
 use Rattle.logs.proofs.AppendLaws.{Appending, appending-starts, appending-long, appending-stops, appending-on, appending-ends}
 use Rattle.logs.proofs.store.append.Statement.{statement}
 use Rattle.logs.proofs.store.append.Tie as tie
@@ -19,8 +18,8 @@ use Rattle.logs.proofs.store.append.Tie as tie
 abbrev Inv-loop : tie.InvT-loop
 Inv-loop log₀ count z big w head a value room n used₀ newest₀ at₀ i₀ log used newest at i =
     (at < 2 ^ w)
-    × Appending log₀ (roomOf log₀) w (bytesIn z big value)
-    (Access.append (roomOf log₀) w (bytesIn z big value) head a (entries log₀ count)) log used newest at i
+    × Appending log₀ (roomIn log₀) w (bytesIn z big value)
+    (Access.append (roomIn log₀) w (bytesIn z big value) head a (entries log₀ count)) log used newest at i
 
 abbrev μ-loop : tie.MeasureT-loop
 μ-loop log₀ count z big w head a value room n used₀ newest₀ at₀ i₀ log used newest at i = z / 8 - i
@@ -30,20 +29,20 @@ abbrev bytes : tie.Start Inv-loop μ-loop → List ℕ
 bytes s = bytesIn (s .args .z) (s .args .big) (s .args .value)
 
 abbrev whole : tie.Start Inv-loop μ-loop → Access.Stored
-whole s = Access.append (roomOf (s .args .log .now)) (s .args .w) (bytes s) (s .args .head) (s .args .a) (entries (s .args .log .now) (s .args .count))
+whole s = Access.append (roomIn (s .args .log .now)) (s .args .w) (bytes s) (s .args .head) (s .args .a) (entries (s .args .log .now) (s .args .count))
 
 many : (s : tie.Start Inv-loop μ-loop) → length (bytes s) ≡ s .args .z / 8
 many s = length-bytesIn (s .args .z) (s .args .big) (s .args .value)
 
 -- the buffer keeps its length
 long : (s : tie.Start Inv-loop μ-loop) {m : List ℕ} {used newest at i : ℕ}
-    → Appending (s .args .log .now) (roomOf (s .args .log .now)) (s .args .w) (bytes s) (whole s) m used newest at i → length m ≡ length (s .args .log .now)
-long s = appending-long (s .args .log .now) (roomOf (s .args .log .now)) (s .args .w) (bytes s) (whole s)
+    → Appending (s .args .log .now) (roomIn (s .args .log .now)) (s .args .w) (bytes s) (whole s) m used newest at i → length m ≡ length (s .args .log .now)
+long s = appending-long (s .args .log .now) (roomIn (s .args .log .now)) (s .args .w) (bytes s) (whole s)
 
 loop-holds : tie.Need-loop-holds Inv-loop μ-loop
 loop-holds c =
     let s = c .before in
-    (s .pre .1 .1 .fits, appending-starts (s .args .log .now) (roomOf (s .args .log .now)) (s .args .w) (bytes s) (s .args .head) (s .args .a) (s .args .count) (s .pre .0))
+    (s .pre .1 .1 .fits, appending-starts (s .args .log .now) (roomIn (s .args .log .now)) (s .args .w) (bytes s) (s .args .head) (s .args .a) (s .args .count) (s .pre .0))
 
 same-length : tie.Need-same-length Inv-loop μ-loop
 same-length c = long (c .before .before .before .before) (c .before .before .loop .inv .1)
@@ -53,13 +52,13 @@ returns c =
     let s = c .before .before .before .before in
     let n = many s in
     let more = c .before .loop-test .taken in
-    appending-stops (s .args .log .now) (roomOf (s .args .log .now)) (s .args .w) (bytes s) (whole s) (c .before .before .loop .inv .1) (omega arith) (c .if1 .taken)
+    appending-stops (s .args .log .now) (roomIn (s .args .log .now)) (s .args .w) (bytes s) (whole s) (c .before .before .loop .inv .1) (omega arith) (c .if1 .taken)
 
 byte-of-requires : tie.Need-byte-of-requires Inv-loop μ-loop
 byte-of-requires c κs = (c .before .before .before .before .before .pre .1 .0, c .before .before .loop-test .taken)
 
-write-requires : tie.Need-write-requires Inv-loop μ-loop
-write-requires c κs =
+write-entry-requires : tie.Need-write-entry-requires Inv-loop μ-loop
+write-entry-requires c κs =
     let s = c .before .before .before .before .before .before in
     let l = c .before .before .before .before .loop in
     let same = long s (l .inv .1) in
@@ -88,10 +87,10 @@ loop-again c =
     let more = c .before .before .before .before .before .before .before .loop-test .taken in
     let free = c .before .before .before .before .before .before .if1 .left in
     let byte : c .before .before .before .before .byte-of .result ≡ getD (bytes s) (l .i) 0 = c .before .before .before .before .byte-of .ensures in
-    let written : c .before .before .before .write .last .0 ≡ sets (l .log) (entrySize * l .used) (l .newest ∷ s .args .w ∷ l .at ∷ c .before .before .before .before .byte-of .result ∷ []) =
-    c .before .before .before .write .ensures in
+    let written : c .before .before .before .write-entry .last .0 ≡ sets (l .log) (entrySize * l .used) (l .newest ∷ s .args .w ∷ l .at ∷ c .before .before .before .before .byte-of .result ∷ []) =
+    c .before .before .before .write-entry .ensures in
     let address : c .above .result ≡ succ (s .args .w) (l .at) = c .above .ensures .is in
-    let on = appending-on (s .args .log .now) (roomOf (s .args .log .now)) (s .args .w) (bytes s) (whole s) (l .inv .1) (omega arith) (omega arith) (omega arith) in
+    let on = appending-on (s .args .log .now) (roomIn (s .args .log .now)) (s .args .w) (bytes s) (whole s) (l .inv .1) (omega arith) (omega arith) (omega arith) in
     (c .above .ensures .fits, rw (written, byte, address) on)
 
 same-length-2 : tie.Need-same-length-2 Inv-loop μ-loop
@@ -102,7 +101,7 @@ returns-2 c =
     let s = c .before .before .before in
     let n = many s in
     let none = c .loop-test .left in
-    appending-ends (s .args .log .now) (roomOf (s .args .log .now)) (s .args .w) (bytes s) (whole s) (c .before .loop .inv .1) (omega arith)
+    appending-ends (s .args .log .now) (roomIn (s .args .log .now)) (s .args .w) (bytes s) (whole s) (c .before .loop .inv .1) (omega arith)
 
 pub append-spec : {M : Type 1} → statement M
 append-spec =
@@ -114,7 +113,7 @@ append-spec =
     same-length
     returns
     byte-of-requires
-    write-requires
+    write-entry-requires
     add-used
     above-requires
     (λ c. omega arith)

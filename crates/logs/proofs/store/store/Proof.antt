@@ -2,9 +2,9 @@
 use mathlib.Core.Path.{ap, subst}
 use borrow.Author.Needs.{needs}
 use Rattle.value.specs.declared.Value.the-variants.{Unknown}
-use Rattle.memory.specs.Log.{Log, entries}
+use Rattle.memory.specs.Log.{Log, entries, roomIn}
 use Rattle.memory.specs.Access as Access
-use Rattle.logs.specs.Storing.{Leaves, roomOf}
+use Rattle.logs.specs.Storing.{Leaves}
 use Rattle.logs.proofs.AddressedLaws.{word-fits, memory-size}
 use Rattle.logs.proofs.AppendLaws.{store-appends, store-at-unknown, store-at-memory, leaves-all}
 use Rattle.logs.proofs.store.store.Statement.{statement}
@@ -23,7 +23,7 @@ returns c =
     let s = c .before .before .before .before .before .before .before .before .before in
     let address = c .before .before .before .before .before .before .address .given .1 in
     subst (λ (x : Access.Stored). Leaves (s .args .log .now) x (c .before .before .append .result) (c .before .before .append .last .0))
-    (store-appends (roomOf (s .args .log .now)) (log s) (s .args .z) (s .args .big) (s .args .memory) (s .args .value) address
+    (store-appends (roomIn (s .args .log .now)) (log s) (s .args .z) (s .args .big) (s .args .memory) (s .args .value) address
     (memory-size (s .pre .1 .1) address) (c .before .before .before .head-of .ensures))
     (c .before .before .append .ensures)
 
@@ -31,14 +31,14 @@ returns-2 : tie.Need-returns-2
 returns-2 c =
     let s = c .before .before .before .before in
     leaves-all (s .pre .0 .room)
-    (store-at-unknown (roomOf (s .args .log .now)) (log s) (s .args .z) (s .args .big) (s .args .memory) (s .args .value) (c .before .enum-told .given .1))
+    (store-at-unknown (roomIn (s .args .log .now)) (log s) (s .args .z) (s .args .big) (s .args .memory) (s .args .value) (c .before .enum-told .given .1))
     (ap Unknown (c .type-of .ensures))
 
 returns-3 : tie.Need-returns-3
 returns-3 c =
     let s = c .before .before .before .before in
     leaves-all (s .pre .0 .room)
-    (store-at-memory (roomOf (s .args .log .now)) (log s) (s .args .z) (s .args .big) (s .args .memory) (s .args .value) (c .before .enum-told2 .given .1))
+    (store-at-memory (roomIn (s .args .log .now)) (log s) (s .args .z) (s .args .big) (s .args .memory) (s .args .value) (c .before .enum-told2 .given .1))
     (ap Unknown (c .type-of2 .ensures))
 
 pub store-spec : {M : Type 1} → statement M

@@ -1,14 +1,13 @@
 -- `after::of_three`: each arm is what stands under its op. Assumes nothing.
 use mathlib.Core.Path.{_≡_, refl, subst}
-use Prim.Native.Nat.{ℕ, _/_}
+use Prim.Native.Nat.{ℕ}
 use lib.Dec.{eqb}
-use lib.ListN.{length}
 use borrow.Author.Needs.{needs}
 use Rattle.base.proofs.NumberedLaws.{numbered-other}
 use Rattle.value.specs.declared.Value.{Value}
 use Rattle.value.specs.Values as Values
 use Rattle.table.specs.declared.Node.{Node}
-use Rattle.memory.specs.Log.{Log, entrySize, entries}
+use Rattle.memory.specs.Log.{Log, entries, roomIn}
 use Rattle.memory.specs.Access as Access
 use Rattle.evaluation.specs.Evaluation.{Evaluated, value, afterStore}
 use Rattle.operation.specs.ByOp.{noValue, threes, threeValue}
@@ -28,7 +27,7 @@ module _ (room : ℕ) (L : Log) (r : Node) (x y z : Value) where
 
 abbrev asked : tie.Start → Evaluated
 asked s =
-    threeValue (length (s .args .log .now) / entrySize) (entries (s .args .log .now) (s .args .count)) (s .args .r) (s .args .x) (s .args .y) (s .args .z)
+    threeValue (roomIn (s .args .log .now)) (entries (s .args .log .now) (s .args .count)) (s .args .r) (s .args .x) (s .args .y) (s .args .z)
 
 store-requires : tie.Need-store-requires
 store-requires c κs =
@@ -43,7 +42,7 @@ returns : tie.Need-returns
 returns c =
     let s = c .before .before .before .before .before .before .before .before in
     let a = s .args in
-    let room = length (a .log .now) / entrySize in
+    let room = roomIn (a .log .now) in
     let L = entries (a .log .now) (a .count) in
     subst (λ (x : Evaluated). Leaves (a .log .now) x (c .of-store .result) (c .before .before .before .store .last .0))
     (at-store room L (a .r) (a .x) (a .y) (a .z) (c .before .before .before .before .before .before .match .keys1))
@@ -54,7 +53,7 @@ returns-2 c =
     let s = c .before .before .before in
     let a = s .args in
     leaves-value (s .pre .0 .room)
-    (at-ite (length (a .log .now) / entrySize) (entries (a .log .now) (a .count)) (a .r) (a .x) (a .y) (a .z) (c .before .match .keys2))
+    (at-ite (roomIn (a .log .now)) (entries (a .log .now) (a .count)) (a .r) (a .x) (a .y) (a .z) (c .before .match .keys2))
     (c .choose .ensures .is)
 
 returns-3 : tie.Need-returns-3

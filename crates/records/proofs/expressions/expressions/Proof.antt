@@ -1,62 +1,30 @@
--- `expressions::expressions`: the invariant is that the rule holds at every expression below i; the measure is what is left of the count.
--- Assumes nothing.
-use mathlib.Core.Path.{_≡_, sym, ap, subst}
-use Prim.Native.Nat.{_≤_, _<_, _-_}
-use native.Mathlib.Omega.{arith}
-use native.Mathlib.Nat.{not-suc-le-zero}
-use borrow.Author.Count.{below-more}
+-- `expressions::expressions`: the invariant is that the rule holds at every expression passed, the measure what is left of them. Assumes nothing.
+use mathlib.Core.Path.{ap}
+use Prim.Native.Nat.{_-_}
 use borrow.Author.Needs.{needs}
-use Rattle.base.specs.Refusals.{HoldsBelow}
-use Rattle.base.proofs.BoolLaws.{passed, failed}
-use Rattle.base.proofs.RefusalLaws.{one-rule-refused, one-rule-accepted}
-use Rattle.table.specs.Bytes.{header}
+use Rattle.base.proofs.PassedLaws.{Passed, none-passed, one-passed, refuses, accepts}
+use Rattle.table.specs.declared.Header.{Header}
 use Rattle.table.specs.Records.{expressionRule}
 use Rattle.records.proofs.expressions.expressions.Statement.{statement}
 use Rattle.records.proofs.expressions.expressions.Tie as tie
 
 abbrev Inv-loop : tie.InvT-loop
-Inv-loop s h i₀ i = (i ≤ h .expressions) × HoldsBelow (expressionRule s .holds) i
+Inv-loop s h i₀ i = Passed (expressionRule s) (h .expressions) i
 
 abbrev μ-loop : tie.MeasureT-loop
 μ-loop s h i₀ i = h .expressions - i
 
-loop-holds : tie.Need-loop-holds Inv-loop μ-loop
-loop-holds c = (omega arith, λ k l. absurd (not-suc-le-zero l))
-
-returns : tie.Need-returns Inv-loop μ-loop
-unfolding expressionRule
-returns c =
-    let l = c .before .before .before .before in
-    let s = l .before .before in
-    let inside = subst (λ h. l .loop .i < h .expressions) (s .pre .is) (c .before .before .if1 .taken) in
-    sym
-    (one-rule-refused (expressionRule (s .args .s .now)) (l .loop .i) inside (l .loop .inv .1)
-    (failed (c .before .expression-ok .ensures) (c .if2 .taken)))
-
-loop-again : tie.Need-loop-again Inv-loop μ-loop
-unfolding expressionRule
-loop-again c =
-    let l = c .before .before .before .before in
-    (search needs, below-more _ _ (l .loop .inv .1) (passed (c .before .expression-ok .ensures) (c .if2 .left)))
-
-returns-2 : tie.Need-returns-2 Inv-loop μ-loop
-unfolding expressionRule
-returns-2 c =
-    let l = c .before .before in
-    let s = l .before .before in
-    let count : l .loop .i ≡ header (s .args .s .now) .expressions = omega (arith, ap (λ h. h .expressions) (s .pre .is)) in
-    sym (one-rule-accepted (expressionRule (s .args .s .now)) (rw count at (l .loop .inv .1)))
-
 pub expressions-spec : {M : Type 1} → statement M
+unfolding expressionRule
 expressions-spec =
     tie.close
     (tie.spec
     Inv-loop
     μ-loop
-    loop-holds
+    (λ c. none-passed _ (ap (λ (h : Header). h .expressions) (c .before .pre .is)))
     (λ c κs. search needs)
-    returns
+    (λ c. refuses _ (c .before .before .before .before .loop .inv) (c .before .before .if1 .taken) (c .before .expression-ok .ensures) (c .if2 .taken))
     (λ c. search needs)
     (λ c. search needs)
-    loop-again
-    returns-2)
+    (λ c. one-passed _ (c .before .before .before .before .loop .inv) (c .before .before .if1 .taken) (c .before .expression-ok .ensures) (c .if2 .left))
+    (λ c. accepts _ (c .before .before .loop .inv) (c .if1 .left)))

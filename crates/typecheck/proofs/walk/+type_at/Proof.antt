@@ -1,16 +1,9 @@
 -- `typecheck::walk::type_at`: each case is what its op makes of its operands' types; the measure is the expression's number. Assumes nothing.
-use mathlib.Core.Path.{_≡_, ap, subst, sym, _∙_}
-use mathlib.Core.List.{List}
+use mathlib.Core.Path.{_∙_}
 use native.Mathlib.Omega.{arith}
-use Rattle.table.specs.declared.Header.{Header}
-use Rattle.table.specs.Bytes.{header}
-use Rattle.table.specs.Records.{Framed, RecordsHold}
-use Rattle.forest.specs.declared.operands.Operands.{Operands}
-use Rattle.forest.specs.Forest.{operandsOf}
-use Rattle.forest.specs.Counting.{listed, AllBelow}
-use Rattle.forest.proofs.OperandLaws.{operands-named, operands-earlier, first-below, rest-below}
-use Rattle.typecheck.proofs.NamedLaws.{var-named, let-named, bits-ordered, bits-few}
-use Rattle.typecheck.proofs.OperandTypes.{leaf-type, one-type, two-type, three-type}
+use Rattle.typecheck.proofs.OperandTypes.{types}
+use Rattle.typecheck.proofs.WalkLaws.{Read, record-asked, leaf-asked, one-asked, two-asked, three-asked, bits-asked, let-asked}
+use Rattle.typecheck.proofs.WalkLaws.{leaf-found, one-found, two-found, three-found}
 use borrow.Author.Needs.{needs}
 use Prim.Native.Nat.{ℕ, _<_}
 use borrow.Fn.Kinds.{In}
@@ -40,135 +33,46 @@ type-at-below t = and 1 type-at-kinds.ps (falls 1 type-at-kinds.ps _<_ μ-type-a
 abbrev type-at-claims : ℕ → type-at-lts.Claims
 type-at-claims t = (header-reads.Asked, header-reads.Learnt, expression-reads.Asked, expression-reads.Learnt, of-expression-reads.Asked, of-expression-reads.Learnt, leaf-reads.Asked, leaf-reads.Learnt, type-at-below t, type-at.Post, one-reads.Asked, one-reads.Learnt, two-reads.Asked, two-reads.Learnt, three-reads.Asked, three-reads.Learnt)
 
-type-at-expression-requires : (t : ℕ) → type-at-lts.Need-expression-requires (type-at-claims t) (type-at-at t) type-at.Post
-type-at-expression-requires t c κs =
-    let s = c .before .before in
-    let is = c .header .ensures in
-    (subst (Framed (s .args .s .now)) (sym is) (s .pre .1 .0), subst (λ (h : Header). s .args .i < h .expressions) (sym is) (s .pre .1 .1 .1))
-
--- ------------------------------------------------------------------------------------------------
--- When the operands are known
-
-abbrev Met : ℕ → Type 0
-Met t = type-at-lts.After-of-expression (type-at-claims t) (type-at-at t) type-at.Post
-
-module _ (t : ℕ) (c : Met t) where
-  abbrev table : List ℕ
-  table = c .before .before .before .before .args .s .now
-
-  abbrev number : ℕ
-  number = c .before .before .before .before .args .i
-
-  abbrev head : Header
-  head = c .before .before .header .result
-
-  framed : Framed table head
-  framed = subst (Framed table) (sym (c .before .before .header .ensures)) (c .before .before .before .before .pre .1 .0)
-
-  hold : RecordsHold table
-  hold = c .before .before .before .before .pre .1 .1 .0
-
-  inside : number < header table .expressions
-  inside = c .before .before .before .before .pre .1 .1 .1
-
-  named : {o : Operands} → c .of-expression .result ≡ o → listed o ≡ operandsOf table number
-  named e = sym (ap listed e) ∙ operands-named table number (c .of-expression .ensures) (c .before .expression .ensures)
-
-  lower : {o : Operands} → c .of-expression .result ≡ o → AllBelow number (listed o)
-  lower e = subst (AllBelow number) (sym (named e)) (operands-earlier hold number inside)
-
-  asked : (k : ℕ) → k < number → (k < t) × (Framed table (header table) × (RecordsHold table × (k < header table .expressions)))
-  asked k l =
-      let m : number ≡ t = c .before .before .before .before .pre .0 in
-      let n = inside in
-      (omega arith, (c .before .before .before .before .pre .1 .0, (hold, omega arith)))
-
-type-at-leaf-requires : (t : ℕ) → type-at-lts.Need-leaf-requires (type-at-claims t) (type-at-at t) type-at.Post
-type-at-leaf-requires t c κs =
-    let m = c .before .before in
-    (framed t m, var-named (framed t m) (hold t m) (number t m) (inside t m) (m .before .expression .ensures))
-
-type-at-type-at-requires : (t : ℕ) → type-at-lts.Need-type-at-requires (type-at-claims t) (type-at-at t) type-at.Post
-type-at-type-at-requires t c κs =
-    let m = c .before .before .before in asked t m _ (first-below (lower t m (c .before .o .given .1)))
-
-type-at-one-requires : (t : ℕ) → type-at-lts.Need-one-requires (type-at-claims t) (type-at-at t) type-at.Post
-type-at-one-requires t c κs =
-    let m = c .before .before .before .before in
-    let is = m .before .expression .ensures in
-    (bits-ordered (framed t m) (hold t m) (number t m) (inside t m) is, bits-few (framed t m) (hold t m) (number t m) (inside t m) is)
-
-type-at-type-at-requires-2 : (t : ℕ) → type-at-lts.Need-type-at-requires-2 (type-at-claims t) (type-at-at t) type-at.Post
-type-at-type-at-requires-2 t c κs =
-    let m = c .before .before .before in asked t m _ (first-below (lower t m (c .before .o2 .given .1)))
-
-type-at-type-at-requires-3 : (t : ℕ) → type-at-lts.Need-type-at-requires-3 (type-at-claims t) (type-at-at t) type-at.Post
-type-at-type-at-requires-3 t c κs =
-    let m = c .before .before .before .before in asked t m _ (first-below (rest-below (lower t m (c .before .before .o2 .given .1))))
-
-type-at-two-requires : (t : ℕ) → type-at-lts.Need-two-requires (type-at-claims t) (type-at-at t) type-at.Post
-type-at-two-requires t c κs =
-    let m = c .before .before .before .before .before in
-    (framed t m, let-named (framed t m) (hold t m) (number t m) (inside t m) (m .before .expression .ensures))
-
-type-at-type-at-requires-4 : (t : ℕ) → type-at-lts.Need-type-at-requires-4 (type-at-claims t) (type-at-at t) type-at.Post
-type-at-type-at-requires-4 t c κs =
-    let m = c .before .before .before in asked t m _ (first-below (lower t m (c .before .o3 .given .1)))
-
-type-at-type-at-requires-5 : (t : ℕ) → type-at-lts.Need-type-at-requires-5 (type-at-claims t) (type-at-at t) type-at.Post
-type-at-type-at-requires-5 t c κs =
-    let m = c .before .before .before .before in asked t m _ (first-below (rest-below (lower t m (c .before .before .o3 .given .1))))
-
-type-at-type-at-requires-6 : (t : ℕ) → type-at-lts.Need-type-at-requires-6 (type-at-claims t) (type-at-at t) type-at.Post
-type-at-type-at-requires-6 t c κs =
-    let m = c .before .before .before .before .before in asked t m _ (first-below (rest-below (rest-below (lower t m (c .before .before .before .o3 .given .1)))))
-
-type-at-returns : (t : ℕ) → type-at-lts.Need-returns (type-at-claims t) (type-at-at t) type-at.Post
-type-at-returns t c =
-    let m = c .before .before .before in
-    c .leaf .ensures ∙ leaf-type (hold t m) (number t m) (inside t m) (m .before .expression .ensures) (named t m (c .before .enum-told .given .1))
-
-type-at-returns-2 : (t : ℕ) → type-at-lts.Need-returns-2 (type-at-claims t) (type-at-at t) type-at.Post
-type-at-returns-2 t c =
-    let m = c .before .before .before .before .before in
-    c .one .ensures
-    ∙ one-type (hold t m) (number t m) (inside t m) (m .before .expression .ensures) (named t m (c .before .before .before .o .given .1))
-    (c .before .type-at .ensures)
-
-type-at-returns-3 : (t : ℕ) → type-at-lts.Need-returns-3 (type-at-claims t) (type-at-at t) type-at.Post
-type-at-returns-3 t c =
-    let m = c .before .before .before .before .before .before in
-    c .two .ensures
-    ∙ two-type (hold t m) (number t m) (inside t m) (m .before .expression .ensures) (named t m (c .before .before .before .before .o2 .given .1))
-    (c .before .before .type-at2 .ensures) (c .before .type-at3 .ensures)
-
-type-at-returns-4 : (t : ℕ) → type-at-lts.Need-returns-4 (type-at-claims t) (type-at-at t) type-at.Post
-type-at-returns-4 t c =
-    let m = c .before .before .before .before .before .before .before in
-    c .three .ensures
-    ∙ three-type (hold t m) (number t m) (inside t m) (m .before .expression .ensures) (named t m (c .before .before .before .before .before .o3 .given .1))
-    (c .before .before .before .type-at4 .ensures) (c .before .before .type-at5 .ensures) (c .before .type-at6 .ensures)
+-- what is known when the operands are read
+read : (t : ℕ) (c : type-at-lts.After-of-expression (type-at-claims t) (type-at-at t) type-at.Post)
+    → let s = c .before .before .before .before .args in
+    Read (s .s .now) t (s .i) (c .before .before .header .result) (c .before .expression .result) (c .of-expression .result)
+read t c =
+    record {
+      asked = c .before .before .before .before .pre;
+      head = c .before .before .header .ensures;
+      is = c .before .expression .ensures;
+      names = c .of-expression .ensures;
+    }
 
 pub +type-at-spec : {M : Type 1} → statement M
 +type-at-spec = close μ-type-at λ t. type-at-lts.spec (type-at-claims t) (type-at-at t) type-at.Post
     (λ c κs. omega (arith, c .before .pre .1 .0 .whole))
-    (type-at-expression-requires t)
+    (λ c κs. record-asked (c .before .before .pre .1) (c .header .ensures))
     (λ c κs. search needs)
     (λ c. search needs)
-    (type-at-leaf-requires t)
+    (λ c κs. leaf-asked (read t (c .before .before)))
     (λ c. search needs)
-    (type-at-type-at-requires t)
-    (type-at-one-requires t)
+    (λ c κs. one-asked (read t (c .before .before .before)) (c .before .o .given .1))
+    (λ c κs. bits-asked (read t (c .before .before .before .before)))
     (λ c. search needs)
-    (type-at-type-at-requires-2 t)
-    (type-at-type-at-requires-3 t)
-    (type-at-two-requires t)
+    (λ c κs. two-asked (read t (c .before .before .before)) (c .before .o2 .given .1) .0)
+    (λ c κs. two-asked (read t (c .before .before .before .before)) (c .before .before .o2 .given .1) .1)
+    (λ c κs. let-asked (read t (c .before .before .before .before .before)))
     (λ c. search needs)
-    (type-at-type-at-requires-4 t)
-    (type-at-type-at-requires-5 t)
-    (type-at-type-at-requires-6 t)
+    (λ c κs. three-asked (read t (c .before .before .before)) (c .before .o3 .given .1) .0)
+    (λ c κs. three-asked (read t (c .before .before .before .before)) (c .before .before .o3 .given .1) .1 .0)
+    (λ c κs. three-asked (read t (c .before .before .before .before .before)) (c .before .before .before .o3 .given .1) .1 .1)
     (λ c κs. search needs)
-    (type-at-returns t)
-    (type-at-returns-2 t)
-    (type-at-returns-3 t)
-    (type-at-returns-4 t)
+    (λ c. c .leaf .ensures ∙ leaf-found (types _) (read t (c .before .before .before)) (c .before .enum-told .given .1))
+    (λ c.
+    c .one .ensures
+    ∙ one-found (types _) (read t (c .before .before .before .before .before)) (c .before .before .before .o .given .1) (c .before .type-at .ensures))
+    (λ c.
+    c .two .ensures
+    ∙ two-found (types _) (read t (c .before .before .before .before .before .before)) (c .before .before .before .before .o2 .given .1)
+    (c .before .before .type-at2 .ensures) (c .before .type-at3 .ensures))
+    (λ c.
+    c .three .ensures
+    ∙ three-found (types _) (read t (c .before .before .before .before .before .before .before)) (c .before .before .before .before .before .o3 .given .1)
+    (c .before .before .before .type-at4 .ensures) (c .before .before .type-at5 .ensures) (c .before .type-at6 .ensures))
