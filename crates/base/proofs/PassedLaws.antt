@@ -1,15 +1,14 @@
--- A loop that looks at the places of a rule from 0 up and stops at the first where it fails; an earlier rule may be asked there. Assumes nothing.
-use mathlib.Core.Path.{_≡_, refl, sym}
+-- A loop that looks at the places of a rule from 0 up and stops at the first where it fails. Assumes nothing.
+use mathlib.Core.Path.{_≡_, sym, subst}
 use mathlib.Core.Bool.{Bool, true, false, not}
 use mathlib.Core.List.{[], _∷_}
 use Prim.Native.Nat.{ℕ, _+_, _≤_, _<_}
 use native.Mathlib.Omega.{arith}
 use borrow.Author.Count.{below-none, below-more}
-use Rattle.base.specs.Refusals.{Rule, HoldsBelow, one-more, no-rule, refusal, orRefused}
-use Rattle.base.specs.declared.Answer.{Answer}
+use Rattle.base.specs.Refusals.{Rule, HoldsBelow, one-more, no-rule, refusal}
 use Rattle.base.specs.declared.Answer.the-variants.{Accepted, Refused}
 use Rattle.base.proofs.BoolLaws.{passed, failed}
-use Rattle.base.proofs.RefusalLaws.{accepted-iff, one-rule-accepted, one-rule-refused, refuses-here, answers-next}
+use Rattle.base.proofs.RefusalLaws.{accepted-iff, one-rule-accepted, one-rule-refused}
 
 -- the rule has n places, and holds at each of the first i
 pub record Passed (rule : Rule) (n i : ℕ) : Type 0 where
@@ -18,8 +17,8 @@ pub record Passed (rule : Rule) (n i : ℕ) : Type 0 where
   pub below : HoldsBelow (rule .holds) i
 
 module _ (rule : Rule) {n : ℕ} where
-  pub none-passed : n ≡ rule .places → Passed rule n 0
-  none-passed e = record { counted = e; reached = omega arith; below = below-none _ }
+  pub none-passed : {i : ℕ} → n ≡ rule .places → i ≡ 0 → Passed rule n i
+  none-passed e first = record { counted = e; reached = omega (arith, first); below = subst (HoldsBelow (rule .holds)) (sym first) (below-none _) }
 
   module _ {i : ℕ} (p : Passed rule n i) where
     pub all-passed : n ≤ i → HoldsBelow (rule .holds) (rule .places)
@@ -35,14 +34,6 @@ module _ (rule : Rule) {n : ℕ} where
 
       pub refuses : not r ≡ true → Refused (rule .code) i ≡ refusal (rule ∷ [])
       refuses t = sym (one-rule-refused rule i (omega (arith, p .counted)) (p .below) (failed is t))
-
-      -- where an earlier rule was asked, its refusal comes first
-      pub or-refuses : (a : Rule) {x : Answer} → not r ≡ true → x ≡ refusal (a ∷ []) → orRefused x (rule .code) i ≡ refusal (a ∷ rule ∷ [])
-      or-refuses a {x} t = go x
-        where
-          go : (x : Answer) → x ≡ refusal (a ∷ []) → orRefused x (rule .code) i ≡ refusal (a ∷ rule ∷ [])
-          go Accepted e = answers-next (a ∷ []) (rule ∷ []) e refl (refuses t)
-          go (Refused code place) e = refuses-here (a ∷ []) (rule ∷ []) e refl
 
 pub both-accept : (a b : Rule) → HoldsBelow (a .holds) (a .places) → HoldsBelow (b .holds) (b .places) → Accepted ≡ refusal (a ∷ b ∷ [])
 both-accept a b p q = sym (accepted-iff (a ∷ b ∷ []) .1 (one-more p (one-more q no-rule)))

@@ -63,8 +63,3 @@ codeOf (Refused code place) = code
 abbrev pub placeOf : Answer → ℕ
 placeOf Accepted = 0
 placeOf (Refused code place) = place
-
--- the answer of two rules of which the second is broken at a place, by that of the first: "in the order of their numbers"
-abbrev pub orRefused : Answer → ℕ → ℕ → Answer
-orRefused Accepted code place = Refused code place
-orRefused (Refused earlier at) code place = Refused earlier at

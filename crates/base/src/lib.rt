@@ -1,9 +1,11 @@
-// What every layer shares: the answer of a check, and a test of a number. The rest is definitions and laws.
+// What every layer shares: the answer of a check, its codes, and a test of a number. The rest is definitions and laws.
 pub mod codes;
 
 ghost use mathlib.Core.Path.{_≡_};
 ghost use Rattle.base.specs.Choice as Choice;
-ghost use Rattle.base.specs.Refusals.{codeOf, placeOf, orRefused};
+ghost use mathlib.Core.List.{[], _∷_};
+ghost use Rattle.base.specs.declared.Answer.the-variants.{Refused};
+ghost use Rattle.base.specs.Refusals.{Rule, refusal, codeOf, placeOf};
 
 // The answer of a check.
 pub enum Answer {
@@ -35,7 +37,7 @@ pub fn place_of(a: Answer) -> u32
 
 // The answer of two rules of which the second is broken at a place: the first rule's refusal, and where it accepts that of the second.
 pub fn or_refused(first: Answer, code: u32, place: u32) -> Answer
-    ensures { λ r. ⌜ r ≡ orRefused first code place ⌝ }
+    ensures { λ r. ⌜ ((a b : Rule) → first ≡ refusal (a ∷ []) → Refused code place ≡ refusal (b ∷ []) → r ≡ refusal (a ∷ b ∷ [])) ⌝ }
 {
     match first {
         Answer::Accepted => Answer::Refused(code, place),

@@ -1,5 +1,5 @@
 -- `write_entry`: four numbers, one after the other. Assumes nothing.
-use mathlib.Core.Path.{_≡_}
+use mathlib.Core.Path.{_≡_, refl}
 use Prim.Native.Nat.{suc, _+_, _*_}
 use native.Mathlib.Omega.{arith}
 use lib.ListN.{length-set}
@@ -15,7 +15,7 @@ returns c =
     let second : at + 1 ≡ suc at = omega arith in
     let third : at + 2 ≡ suc (suc at) = omega arith in
     let fourth : at + 3 ≡ suc (suc (suc at)) = omega arith in
-    rw (first, second, third, fourth)
+    rw (first, second, third, fourth) refl
 
 pub write-entry-spec : {M : Type 1} → statement M
 write-entry-spec =

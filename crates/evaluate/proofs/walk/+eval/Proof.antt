@@ -316,6 +316,12 @@ eval-two-requires t c κs =
     let f = two-of t g in
     two-asks (here t (two-met t f)) (two-way t f) (two-first t f) (two-value t g) (two-second t g)
 
+eval-returns-3 : (t : ℕ) → eval-lts.Need-returns-3 (eval-claims t) (eval-at t) eval.Post
+eval-returns-3 t c =
+    let f = c .before .before .before .before .before in
+    let m = let-met t f in
+    let-full (here t m) (let-way t f) (let-first t f) (c .before .before .before .e2 .given .1) (c .if1 .taken)
+
 eval-with-requires : (t : ℕ) → eval-lts.Need-with-requires (eval-claims t) (eval-at t) eval.Post
 eval-with-requires t c κs =
     let f = c .before .before .before .before .before .before in
@@ -339,12 +345,6 @@ eval-returns-2 : (t : ℕ) → eval-lts.Need-returns-2 (eval-claims t) (eval-at 
 eval-returns-2 t c =
     let f = c .before .before in
     let-stops (here t (let-met t f)) (let-way t f) (let-first t f) (c .enum-told7 .given .1)
-
-eval-returns-3 : (t : ℕ) → eval-lts.Need-returns-3 (eval-claims t) (eval-at t) eval.Post
-eval-returns-3 t c =
-    let f = c .before .before .before .before .before in
-    let m = let-met t f in
-    let-full (here t m) (let-way t f) (let-first t f) (c .before .before .before .e2 .given .1) (c .if1 .taken)
 
 eval-returns-4 : (t : ℕ) → eval-lts.Need-returns-4 (eval-claims t) (eval-at t) eval.Post
 eval-returns-4 t c =

@@ -1,5 +1,5 @@
 -- `expressions::expressions`: the invariant is that the rule holds at every expression passed, the measure what is left of them. Assumes nothing.
-use mathlib.Core.Path.{ap}
+use mathlib.Core.Path.{refl, ap}
 use Prim.Native.Nat.{_-_}
 use borrow.Author.Needs.{needs}
 use Rattle.base.proofs.PassedLaws.{Passed, none-passed, one-passed, refuses, accepts}
@@ -21,7 +21,7 @@ expressions-spec =
     (tie.spec
     Inv-loop
     μ-loop
-    (λ c. none-passed _ (ap (λ (h : Header). h .expressions) (c .before .pre .is)))
+    (λ c. none-passed _ (ap (λ (h : Header). h .expressions) (c .before .pre .is)) refl)
     (λ c κs. search needs)
     (λ c. refuses _ (c .before .before .before .before .loop .inv) (c .before .before .if1 .taken) (c .before .expression-ok .ensures) (c .if2 .taken))
     (λ c. search needs)

@@ -1,5 +1,5 @@
 -- `variables::variables`: the invariant is that the rule holds at every variable passed, the measure what is left of them. Assumes nothing.
-use mathlib.Core.Path.{ap, _∙_}
+use mathlib.Core.Path.{refl, ap, _∙_}
 use Prim.Native.Nat.{_-_}
 use borrow.Author.Needs.{needs}
 use Rattle.base.proofs.PassedLaws.{Passed, none-passed, one-passed, refuses, accepts}
@@ -35,7 +35,7 @@ variables-spec =
     (tie.spec
     Inv-loop
     μ-loop
-    (λ c. none-passed _ (ap (λ (h : Header). h .variables) (c .before .pre .is)))
+    (λ c. none-passed _ (ap (λ (h : Header). h .variables) (c .before .pre .is)) refl)
     (λ c. search needs)
     (λ c κs. search needs)
     (λ c κs. search needs)

@@ -13,6 +13,14 @@ start s = lent (s .args .table .now) (s .args .state .now) (s .args .log .now) (
 header-requires : tie.Need-header-requires
 header-requires c κs = let s = c .before .before .before in omega (arith, running (start s) (s .pre) .framed .whole)
 
+returns : tie.Need-returns
+returns c =
+    let b = c .before .before .before .before .before in
+    let h = b .before .before .before in
+    let s = h .before .before .before .before in
+    let g = gives-ran (start s) (s .pre) _ (h .header .ensures) (b .block .ensures) in
+    (g, again (start s) (s .pre) g)
+
 block-requires : tie.Need-block-requires
 block-requires c κs =
     let h = c .before .before in
@@ -25,14 +33,6 @@ sub-ticks c =
     let h = b .before .before .before in
     let s = h .before .before .before .before in
     ticks-most (start s) (s .pre) _ (h .header .ensures) (b .block .ensures)
-
-returns : tie.Need-returns
-returns c =
-    let b = c .before .before .before .before .before in
-    let h = b .before .before .before in
-    let s = h .before .before .before .before in
-    let g = gives-ran (start s) (s .pre) _ (h .header .ensures) (b .block .ensures) in
-    (g, again (start s) (s .pre) g)
 
 pub run-accepted-spec : {M : Type 1} → statement M
 run-accepted-spec =

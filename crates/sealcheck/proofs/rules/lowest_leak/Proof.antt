@@ -1,6 +1,6 @@
 -- `sealcheck::rules::lowest_leak`: the invariant is that no expression passed leaks, the measure what is left of them.
 -- Assumes nothing.
-use mathlib.Core.Path.{ap}
+use mathlib.Core.Path.{refl, ap}
 use Prim.Native.Nat.{_-_}
 use borrow.Author.Needs.{needs}
 use Rattle.base.proofs.PassedLaws.{Passed, none-passed, one-passed, refuses, accepts}
@@ -22,7 +22,7 @@ lowest-leak-spec =
     (tie.spec
     Inv-loop
     μ-loop
-    (λ c. none-passed _ (ap (λ (h : Header). h .expressions) (c .before .pre .0 .is)))
+    (λ c. none-passed _ (ap (λ (h : Header). h .expressions) (c .before .pre .0 .is)) refl)
     (λ c κs. search needs)
     (λ c. refuses _ (c .before .before .before .before .loop .inv) (c .before .before .if1 .taken) (c .before .expression-ok .ensures) (c .if2 .taken))
     (λ c. search needs)

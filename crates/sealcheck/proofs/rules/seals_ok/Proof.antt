@@ -1,9 +1,9 @@
 -- `sealcheck::rules::seals_ok`: the invariant is that every statement passed keeps its rule, the measure what is left of them.
 -- Assumes nothing.
-use mathlib.Core.Path.{ap, _∙_}
+use mathlib.Core.Path.{refl, ap}
 use Prim.Native.Nat.{_-_}
 use borrow.Author.Needs.{needs}
-use Rattle.base.proofs.PassedLaws.{Passed, none-passed, one-passed, or-refuses, all-passed}
+use Rattle.base.proofs.PassedLaws.{Passed, none-passed, one-passed, refuses, all-passed}
 use Rattle.table.specs.declared.Header.{Header}
 use Rattle.sealing.specs.Verdict.{expressionSealRule, statementSealRule, sealRules}
 use Rattle.sealcheck.proofs.VerdictLaws.{seals-accepted}
@@ -24,16 +24,16 @@ seals-ok-spec =
     Inv-loop
     μ-loop
     (λ c. search needs)
-    (λ c. none-passed _ (ap (λ (h : Header). h .statements) (c .before .before .pre .0 .is)))
+    (λ c. none-passed _ (ap (λ (h : Header). h .statements) (c .before .before .pre .0 .is)) refl)
     (λ c κs. search needs)
     (λ c κs. search needs)
     (λ c. search needs)
     (λ c κs. search needs)
     (λ c.
     let l = c .before .before .before .before .before in
-    c .or-refused .ensures
-    ∙ or-refuses _ (l .loop .inv) (c .before .before .before .before .loop-test .taken) (c .before .before .before .statement-ok .ensures)
-    (expressionSealRule (l .before .before .before .args .s .now)) (c .before .before .if1 .taken) (c .before .lowest-leak .ensures))
+    let s = l .before .before .before .args .s .now in
+    c .or-refused .ensures (expressionSealRule s) (statementSealRule s) (c .before .lowest-leak .ensures)
+    (refuses _ (l .loop .inv) (c .before .before .before .before .loop-test .taken) (c .before .before .before .statement-ok .ensures) (c .before .before .if1 .taken)))
     (λ c. search needs)
     (λ c. search needs)
     (λ c. one-passed _ (c .before .before .before .loop .inv) (c .before .before .loop-test .taken) (c .before .statement-ok .ensures) (c .if1 .left))

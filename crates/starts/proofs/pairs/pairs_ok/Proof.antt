@@ -1,5 +1,5 @@
 -- `pairs::pairs_ok`: the invariant is that the rule holds at every variable passed, the measure what is left of them. Assumes nothing.
-use mathlib.Core.Path.{_≡_, ap, _∙_}
+use mathlib.Core.Path.{_≡_, refl, ap, _∙_}
 use mathlib.Core.Bool.{Bool}
 use Prim.Native.Nat.{ℕ, _*_, _+_, _-_}
 use lib.ListN.{getD}
@@ -54,7 +54,7 @@ pairs-ok-spec =
     (tie.spec
     Inv-loop
     μ-loop
-    (λ c. none-passed _ (ap (λ (h : Header). h .variables) (c .before .before .before .pre .0 .is)))
+    (λ c. none-passed _ (ap (λ (h : Header). h .variables) (c .before .before .before .pre .0 .is)) refl)
     (λ c. search needs)
     (λ c κs. search needs)
     (λ c. search needs)
