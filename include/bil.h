@@ -1,13 +1,18 @@
 /*
- * bil.h: the word operations of BIL, the verdicts of its tables and their run, from the proved library libbil.a.
+ * bil.h: the word operations of BIL, the verdicts of its tables and their run, from the proved library libbil.
  *
- * `rt staticlib bil` writes target/staticlib/libbil.a, an archive for x86-64 Linux in the C calling form. To use it:
+ * The library is for x86-64 Linux, in the C calling form. In the repository `make` writes target/staticlib/libbil.a, and
+ * `make install` puts it where a compiler finds it:
  *
  *     gcc -Iinclude program.c target/staticlib/libbil.a
+ *     gcc program.c $(pkg-config --cflags --libs bil)
  *
  * The functions keep no state and always return the same answer to the same arguments. None writes memory of the
  * caller, save bil_run, which writes the three buffers that it is lent for that. So any number of threads may call them
  * at once, bil_run with buffers of their own. None of them allocates.
+ *
+ * All functions of the library are proved. The two that stand here in full, bil_variables and bil_code_text, are plain C
+ * (C99 or later, or C++) and are tested.
  */
 #ifndef BIL_H
 #define BIL_H
@@ -18,6 +23,10 @@
 #ifdef __cplusplus
 extern "C" {
 #endif
+
+/* The version of this header and of the library it goes with: as text, and as 10,000 major + 100 minor + patch for #if. */
+#define BIL_VERSION "0.2.0"
+#define BIL_VERSION_NUMBER 200
 
 /*
  * Words. A word is a number below 2^width, of 1 to 64 bits. An operation takes the number of the operation, the width
@@ -76,7 +85,8 @@ uint64_t bil_word_value(uint32_t sub, uint32_t width, uint64_t a, uint64_t b);
  * asks for a place only where the code is not 0.
  */
 enum bil_code {
-    BIL_ACCEPTED = 0,       /* accepted and, from the seal check, clean */
+    BIL_ACCEPTED = 0,       /* of the check: accepted */
+    BIL_CLEAN = 0,          /* of the seal check: accepted and clean */
     BIL_SHORT = 1,          /* under 32 bytes */
     BIL_FORMAT = 2,         /* a format that is not 1, or an address width that is not 1 to 64 */
     BIL_COUNT = 3,          /* over 256 variables or 2,048 expressions, or not 1 to 1,024 statements */
@@ -95,11 +105,11 @@ enum bil_code {
     BIL_STATEMENT_SEAL = 15 /* a sealed value moved to an open variable, a sealed jump or guard; the statement */
 };
 
-/* The verdict on a table: its code, BIL_ACCEPTED to BIL_STATEMENT_TYPE, and its place, 0 where the code has none. */
+/* The check: its code, BIL_ACCEPTED or BIL_SHORT to BIL_STATEMENT_TYPE, and its place, 0 where the code has none. */
 uint32_t bil_check_code(const uint8_t *table, size_t length);
 uint32_t bil_check_place(const uint8_t *table, size_t length);
 
-/* The seal check: the same verdict and, for a table that is accepted, BIL_SEAL and BIL_STATEMENT_SEAL too. */
+/* The seal check: BIL_CLEAN, what the check refuses or, of an accepted table, BIL_SEAL or BIL_STATEMENT_SEAL; and its place. */
 uint32_t bil_seal_code(const uint8_t *table, size_t length);
 uint32_t bil_seal_place(const uint8_t *table, size_t length);
 
@@ -117,12 +127,13 @@ uint32_t bil_seal_place(const uint8_t *table, size_t length);
  * `log_count` is how many entries the log has, `next` the next address, and `budget` the most ticks that the run may
  * take. Any contents and any numbers may be lent: bad ones are answered by a code. What a run leaves can be lent again.
  *
- * The code is BIL_ACCEPTED where the run is done, one of BIL_SHORT to BIL_STATEMENT_TYPE, or one of these. From
+ * The code is BIL_DONE where the run came to the table's end, one of BIL_SHORT to BIL_STATEMENT_TYPE, or one of these. From
  * BIL_SHORT to BIL_PAIR the run was refused: state and log are unchanged, ticks are 0, log count and next address are as
  * given. From BIL_GUARD on it stopped at the statement that is its place, the innermost one: its move isn't done, entries
  * that it appended stay, and its tick counts, save at BIL_NO_TICK. What the run had done till then stays done.
  */
 enum bil_run_code {
+    BIL_DONE = 0,           /* run to the table's end */
     BIL_START = 16,         /* the size of state (place 0) or of log (1), log_count over the room (2), next (3) */
     BIL_ENTRY = 17,         /* an entry that breaks the log's rules; the entry */
     BIL_PAIR = 18,          /* a pair that its variable cannot have; the variable */
@@ -136,6 +147,7 @@ enum bil_run_code {
 /* Sizes, in bytes or in numbers. */
 enum bil_size {
     BIL_TABLE_MOST = 51232, /* bytes of the largest table: 256 variables, 2,048 expressions, 1,024 statements */
+    BIL_VARIABLES_MOST = 256, /* variables of the largest table */
     BIL_STATE_MOST = 512,   /* numbers of the largest state; the size lent is exactly two a variable of the table */
     BIL_ENTRY_SIZE = 4,     /* numbers of an entry of the log; the size lent is a multiple of it */
     BIL_LOG_MOST = 262144,  /* numbers of the largest log, 65,536 entries; 0 is a log without room */
@@ -150,9 +162,59 @@ enum bil_pair {
     BIL_PAIR_MEMORY = 3     /* with the newest entry of its chain, 1 to the log count; of memory variables */
 };
 
+/*
+ * How many variables an accepted table has: its state is two numbers for each. The count stands in bytes 4 to 7 of the
+ * table, the low byte first. Of bytes that are no table it gives some number from 0 to BIL_VARIABLES_MOST, so a buffer of
+ * twice as many numbers is never too large; 0 where there are under 32 bytes or the count is over the limit.
+ */
+static inline size_t bil_variables(const uint8_t *table, size_t length)
+{
+    uint32_t count;
+    if (length < 32)
+        return 0;
+    count = table[4] | (uint32_t)table[5] << 8 | (uint32_t)table[6] << 16 | (uint32_t)table[7] << 24;
+    return count <= BIL_VARIABLES_MOST ? count : 0;
+}
+
 /* 1, and the five numbers in out; 0 where out_size is not 5: then nothing is written anywhere. */
 uint32_t bil_run(const uint8_t *table, size_t length, uint64_t *state, size_t state_size, uint64_t *log,
                  size_t log_size, uint64_t log_count, uint64_t next, uint32_t budget, uint64_t *out, size_t out_size);
+
+/*
+ * What a code says, in the words of docs/FORMAT.md, for a message to people: of a check, a seal check or a run. Any number
+ * may be asked for; one that is no code has the text "no such code". The text is never freed and never changes.
+ */
+static inline const char *bil_code_text(uint64_t code)
+{
+    switch (code) {
+    case BIL_ACCEPTED: return "accepted; clean; done";
+    case BIL_SHORT: return "fewer than 32 bytes";
+    case BIL_FORMAT: return "the format is not 1, or A is not 1 to 64";
+    case BIL_COUNT: return "over 256 variables, over 2,048 expressions, no statement or over 1,024";
+    case BIL_LAYOUT: return "an offset, the total or the length is not what the counts give";
+    case BIL_VARIABLE: return "no variable has such a record";
+    case BIL_EXPRESSION: return "no expression has such a record";
+    case BIL_STATEMENT: return "no statement has such a record, or a body ends outside the block around it";
+    case BIL_USES: return "an expression is used not at all, or more than once";
+    case BIL_DEPTH: return "an expression over 64 deep";
+    case BIL_NESTING: return "a statement nested over 32 deep";
+    case BIL_SCOPE: return "a let variable read outside its let's body, or a let inside the body of another of the same variable";
+    case BIL_TYPE: return "an expression has no type";
+    case BIL_STATEMENT_TYPE: return "a move, jump or guard of the wrong type";
+    case BIL_SEAL: return "a load or store at a sealed address, or a sealed value bound to an open let variable";
+    case BIL_STATEMENT_SEAL: return "a sealed value moved to an open variable, a sealed jump or guard";
+    case BIL_START: return "the state is not 2V numbers (place 0); the log is not a multiple of 4 numbers or over 65,536 entries (1); "
+                           "its count is over its room (2); the next address is not below 2^A (3)";
+    case BIL_ENTRY: return "an entry of the log breaks the log's rules";
+    case BIL_PAIR: return "a pair that the variable can't have, or a let variable that is not absent";
+    case BIL_GUARD: return "a guard is unknown";
+    case BIL_JUMP: return "a jump is unknown";
+    case BIL_LOG_FULL: return "the log is full when a byte is to be appended";
+    case BIL_NO_TICK: return "a tick is needed and none is left";
+    case BIL_BINDINGS: return "a let would put a 65th binding in force";
+    default: return "no such code";
+    }
+}
 
 #ifdef __cplusplus
 }
