@@ -5,7 +5,7 @@ use crate::tables::{operand_fields, root_field, tower, unary, unknown, word};
 use crate::verdicts::{Expression, Statement, Table, Type, Variable};
 
 /// Which of the places that can be damaged is.
-#[derive(Clone, Copy, Debug, PartialEq)]
+#[derive(Clone, Copy, Debug, PartialEq, Eq)]
 pub enum Place {
     Lowest,
     Highest,

@@ -13,7 +13,7 @@ const BINDINGS: usize = 64;
 const CASTS: [&str; 4] = ["low", "high", "signed", "unsigned"];
 
 /// What a run is given.
-#[derive(Clone, Debug, PartialEq)]
+#[derive(Clone, Debug, PartialEq, Eq)]
 pub struct Start {
     pub table: Vec<u8>,
     pub state: Vec<u64>,
@@ -24,7 +24,7 @@ pub struct Start {
 }
 
 /// What a run gives back: code, place, ticks, log count, next address; and its buffers.
-#[derive(Clone, Debug, PartialEq)]
+#[derive(Clone, Debug, PartialEq, Eq)]
 pub struct End {
     pub numbers: [u64; 5],
     pub state: Vec<u64>,
@@ -82,7 +82,7 @@ pub const CASES: [&str; 44] = [
     "load: at the chain's end",
 ];
 
-#[derive(Clone, Copy, Debug, PartialEq)]
+#[derive(Clone, Copy, Debug, PartialEq, Eq)]
 pub enum Value {
     Word {
         width: u32,

@@ -202,7 +202,7 @@ fn any_order(random: &mut Random, log: &[u64], entries: &[u64]) -> Vec<u64> {
 }
 
 /// Where in a list a fault goes.
-#[derive(Clone, Copy, Debug, PartialEq)]
+#[derive(Clone, Copy, Debug, PartialEq, Eq)]
 pub enum At {
     First,
     Last,

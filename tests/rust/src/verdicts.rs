@@ -8,7 +8,7 @@ pub const STATEMENTS: u32 = 1_024;
 pub const DEPTH: u32 = 64;
 pub const NESTING: u32 = 32;
 
-#[derive(Clone, Copy, Debug, Default, PartialEq)]
+#[derive(Clone, Copy, Debug, Default, PartialEq, Eq)]
 pub struct Variable {
     pub kind: u8,
     pub label: u8,
@@ -18,7 +18,7 @@ pub struct Variable {
     pub zeros: [u8; 3],
 }
 
-#[derive(Clone, Copy, Debug, Default, PartialEq)]
+#[derive(Clone, Copy, Debug, Default, PartialEq, Eq)]
 pub struct Expression {
     pub op: u8,
     pub sub: u8,
@@ -29,7 +29,7 @@ pub struct Expression {
     pub c: u32,
 }
 
-#[derive(Clone, Copy, Debug, Default, PartialEq)]
+#[derive(Clone, Copy, Debug, Default, PartialEq, Eq)]
 pub struct Statement {
     pub op: u8,
     pub zeros: [u8; 3],
@@ -38,7 +38,7 @@ pub struct Statement {
     pub c: u32,
 }
 
-#[derive(Clone, Debug, PartialEq)]
+#[derive(Clone, Debug, PartialEq, Eq)]
 pub struct Table {
     pub format: u16,
     pub address_width: u16,
@@ -47,7 +47,7 @@ pub struct Table {
     pub statements: Vec<Statement>,
 }
 
-#[derive(Clone, Copy, Debug, PartialEq)]
+#[derive(Clone, Copy, Debug, PartialEq, Eq)]
 pub enum Type {
     Immediate(u32),
     /// A memory, by the width of its addresses: its elements have 8 bits always.
@@ -83,7 +83,7 @@ fn read(bytes: &[u8]) -> Result<Table, Verdict> {
     }
     let header: Vec<u32> = (0..7).map(|i| four(bytes, 4 + 4 * i)).collect();
     let (v, e, s) = (header[0], header[2], header[4]);
-    if v > VARIABLES || e > EXPRESSIONS || s < 1 || s > STATEMENTS {
+    if v > VARIABLES || e > EXPRESSIONS || !(1..=STATEMENTS).contains(&s) {
         return Err((3, 0));
     }
     let starts = [32, 32 + 8 * v, 32 + 8 * v + 16 * e, 32 + 8 * v + 16 * e + 16 * s];

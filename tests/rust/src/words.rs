@@ -6,7 +6,7 @@ pub const NAMES: [&str; 19] = [
     "le", "slt", "sle",
 ];
 
-#[derive(Clone, Copy, Debug, PartialEq)]
+#[derive(Clone, Copy, Debug, PartialEq, Eq)]
 pub struct Request {
     pub sub: u32,
     pub width: u32,
@@ -14,7 +14,7 @@ pub struct Request {
     pub b: u64,
 }
 
-#[derive(Clone, Copy, Debug, PartialEq)]
+#[derive(Clone, Copy, Debug, PartialEq, Eq)]
 pub enum Answer {
     Bad,
     Word(u64),

@@ -138,7 +138,7 @@ fn note(text: &str, met: &mut BTreeMap<String, usize>) {
 }
 
 fn main_or(words: &[String]) -> Result<(), String> {
-    let [count, command @ ..] = words else { return Err("usage: bilrun COUNT COMMAND [ARGS]".to_string()) };
+    let (count, command) = words.split_first().ok_or("usage: bilrun COUNT COMMAND [ARGS]")?;
     let count: usize = count.parse().map_err(|_| "COUNT is no number".to_string())?;
     let mut met = BTreeMap::new();
     let all = inputs(count);

@@ -389,8 +389,11 @@ fn pair(random: &mut Random, clean: bool) -> (Table, [Case; 2]) {
     }
 }
 
+/// A value that can be compared: its kind, its word, and of a memory its stores.
+type Held = (u64, u64, Vec<(u64, u64)>);
+
 /// The value of each variable that is asked for: absent and unknown are one, and a memory is the list of its stores.
-fn values(t: &Table, state: &[u64], log: &[u64], wanted: fn(&Variable) -> bool) -> Vec<(u64, u64, Vec<(u64, u64)>)> {
+fn values(t: &Table, state: &[u64], log: &[u64], wanted: fn(&Variable) -> bool) -> Vec<Held> {
     let pairs = t.variables.iter().zip(state.chunks(2)).filter(|(v, _)| wanted(v));
     pairs
         .map(|(_, pair)| match pair[0] {
