@@ -137,3 +137,18 @@ build_rust() {
   }
   rust build --quiet --locked --offline --release
 }
+
+# Sets `plain` to the functions of bil.h in plain C, unproved, as a library for this machine: target/tests/plain/libbil.a.
+# Tests of what stands on the library link it where they can't link the archive. Built where it is older.
+build_plain() {
+  local peer=$root/tests/performance folder=$work/plain
+  plain=$folder/libbil.a
+  [ -e "$plain" ] && [ -z "$(find "$peer" "$root/include" -name '*.[ch]' -newer "$plain" -print -quit)" ] && return
+  links gcc || install_packages gcc libc6-dev
+  mkdir -p "$folder"
+  rm -f "$folder"/*
+  (cd "$folder" && gcc -std=c11 -O2 -Wall -Wextra -Werror -I"$root/include" -c \
+    "$peer/peer.c" "$peer/peer_bil.c" "$peer/interpreter.c" "$peer/peer_run.c" "$peer/peer_word.c") ||
+    fail "cannot compile the plain C library"
+  ar rcs "$plain" "$folder"/*.o || fail "cannot write $plain"
+}
