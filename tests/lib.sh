@@ -1,5 +1,5 @@
 # shellcheck shell=bash
-# What the test scripts and ./run share. Source it from bash.
+# What the test scripts, ./run and the Makefile share. Source it from bash, under `set -euo pipefail`.
 #
 # Rattle's programs and archives are for x86-64. On such a machine they run as they are; on another one C is
 # cross-compiled and all runs under an emulator.
@@ -14,9 +14,9 @@ fail() {
   exit 1
 }
 
-# The toolchain's part for this machine: its C library, its loader and, where there is one, its emulator.
-command -v rt >/dev/null || fail "no command rt: the Rattle toolchain is not on PATH"
-kit=${RATTLE_HOME:-$(dirname "$(dirname "$(readlink -f "$(command -v rt)")")")}
+# The toolchain's part for this machine: its C library, its loader and, where there is one, its emulator. Only what is to be
+# built needs the toolchain.
+kit=${RATTLE_HOME:-$(dirname "$(dirname "$(readlink -f "$(command -v rt || echo /none/none)")")")}
 tools=$kit/on/$machine/toolchain
 
 # Installs Debian packages by name. The lists of packages are fetched once, and again only where an install fails.
@@ -46,18 +46,47 @@ links() { # COMPILER
   echo 'int main(void) { return 0; }' | "$1" -static -x c -o "$work/links" - 2>/dev/null
 }
 
-# Compiles C for x86-64. The program is static, so that an emulator needs no C library beside it.
-compile_x86() { # OUT FILE..
-  local out=$1 compiler=gcc
-  shift
-  mkdir -p "$(dirname "$out")"
+# Sets `compiler` to one that makes programs for x86-64.
+need_compiler_x86() {
   if [ "$machine" = x86_64 ]; then
-    links gcc || install_packages gcc libc6-dev
+    compiler=gcc
+    links $compiler || install_packages gcc libc6-dev
   else
     compiler=x86_64-linux-gnu-gcc
     links $compiler || install_packages gcc-x86-64-linux-gnu libc6-dev-amd64-cross
   fi
-  "$compiler" -std=c11 -O2 -Wall -Wextra -Werror -static -I"$root/include" -o "$out" "$@" || fail "cannot compile $*"
+}
+
+# Sets the array `libm` to the words that link `compiler`'s mathematical library into a static program. Debian's libm.a is a
+# linker script that names archives by their paths on an x86-64 machine. On another machine they lie beside the script.
+find_libm() {
+  local script name names
+  libm=(-lm)
+  script=$($compiler -print-file-name=libm.a)
+  if [ "$machine" = x86_64 ] || [ "$(head -c 7 "$script")" = '!<arch>' ]; then return; fi
+  libm=()
+  mapfile -t names < <(grep -o '[^ /()]*\.a' "$script")
+  for name in "${names[@]}"; do
+    [ -f "$(dirname "$script")/$name" ] || fail "$script names $name, which does not lie beside it"
+    libm+=("$(dirname "$script")/$name")
+  done
+}
+
+# Compiles C for x86-64. The program is static, so that an emulator needs no C library beside it. Among the files may be -lm.
+compile_x86() { # OUT FILE..
+  local out=$1 word words=()
+  shift
+  mkdir -p "$(dirname "$out")"
+  need_compiler_x86
+  for word in "$@"; do
+    if [ "$word" = -lm ]; then
+      find_libm
+      words+=("${libm[@]}")
+    else
+      words+=("$word")
+    fi
+  done
+  "$compiler" -std=c11 -O2 -Wall -Wextra -Werror -static -I"$root/include" -o "$out" "${words[@]}" || fail "cannot compile $*"
 }
 
 # Sets the array `launch` to the words that run an x86-64 program on this machine, the program last: one of
@@ -72,7 +101,7 @@ launch_x86() { # PROGRAM
       launch+=(qemu-x86_64)
     fi
   fi
-  if head -c 4096 "$1" | grep -qa ld-linux-x86-64; then
+  if [ -x "$tools/lib/ld-linux-x86-64.so.2" ] && head -c 4096 "$1" | grep -qa ld-linux-x86-64; then
     launch+=("$tools/lib/ld-linux-x86-64.so.2" --library-path "$tools/lib")
   fi
   launch+=("$1")
@@ -90,15 +119,45 @@ fresh() { # FILE
   [ -e "$1" ] && [ -z "$(find "$root/crates.txt" "$root/crates" -newer "$1" -print -quit)" ]
 }
 
+# How many crates of this repository a crate stands on, itself counted. A crate stands below those that name it.
+crates_below() { # CRATE
+  sed -e 's/#.*//' -e '/:/!d' "$root/crates.txt" | tac | awk -F: -v crate="$1" '
+    BEGIN { wanted[crate] = 1 }
+    { gsub(/[ \t]/, "", $1) }
+    $1 in wanted { count++; n = split($2, names, " "); for (i = 1; i <= n; i++) wanted[names[i]] = 1 }
+    END { print count + 0 }'
+}
+
+# Has rt prove a crate and make a file of it, where that is older than the crates. It says on standard error how far it
+# is, and what rt printed where it fails.
+build_by_rt() { # check|staticlib CRATE FILE
+  local all proved=0 line log=$work/rt-$1-$2.log
+  fresh "$3" && return
+  command -v rt >/dev/null || fail "no command rt: the Rattle toolchain is not on PATH, and ${3#"$root/"} is to be built by it"
+  mkdir -p "$work"
+  all=$(crates_below "$2")
+  printf 'building %s: its %d crates are proved first, which takes some minutes where none is proved yet\n' "${3#"$root/"}" "$all" >&2
+  if ! (cd "$root" && rt "$1" "$2") 2>&1 </dev/null | tee "$log" | while IFS= read -r line; do
+    [[ $line =~ ^rt:\ ([a-z_]+)\ proved\ \((.*)\)$ ]] || continue
+    proved=$((proved + 1))
+    [[ ${BASH_REMATCH[2]} == unchanged* ]] || printf '  %d of %d proved: %s (%s)\n' "$proved" "$all" "${BASH_REMATCH[1]}" "${BASH_REMATCH[2]}" >&2
+  done || [ ! -e "$3" ]; then
+    tail -n 20 "$log" >&2
+    fail "rt $1 $2 made no ${3#"$root/"} (${log#"$root/"} has all that it said)"
+  fi
+  touch "$3" # rt leaves alone what it need not make again
+}
+
 # Sets `archive` to a library's archive, proved and built if it must be.
 build_archive() { # CRATE
   archive=$root/target/staticlib/lib$1.a
-  fresh "$archive" && return
-  mkdir -p "$work"
-  (cd "$root" && rt staticlib "$1") >"$work/staticlib.log" 2>&1 </dev/null || {
-    tail -n 20 "$work/staticlib.log" >&2
-    fail "rt staticlib $1 made no archive"
-  }
+  build_by_rt staticlib "$1" "$archive"
+}
+
+# Sets `program` to a program, proved and built if it must be.
+build_program() { # CRATE
+  program=$root/target/bin/$1
+  build_by_rt check "$1" "$program"
 }
 
 # Sets `driver` to the program of tests/GROUP/driver.c over the archive of bil.
@@ -108,18 +167,25 @@ build_driver() { # GROUP
   compile_x86 "$driver" "$root/tests/$1/driver.c" "$archive"
 }
 
-# Sets `defect_coder` to the C program that stands for the defect coder, over the archive of bil. Built where it is older.
-build_defect_coder() {
-  local source=$root/tests/verdicts/defect_coder.c
-  defect_coder=$work/defect_coder
-  [ "$defect_coder" -nt "$archive" ] && [ "$defect_coder" -nt "$source" ] && return
-  compile_x86 "$defect_coder" "$source" "$archive"
-}
-
-# Prints the bytes of a table written as text: '#' starts a comment, a line that starts with '=' is none of the table,
-# and the rest is bytes in hexadecimal.
+# Prints the bytes of a table written as text: '#' starts a comment, a line that starts with '=' is none of the table, and the
+# rest is pairs of hexadecimal digits, with or without blanks between pairs. Anything else is told with its line, and no byte
+# is printed.
 table_bytes() { # FILE
-  printf '%b' "$(sed -e 's/#.*//' -e '/^=/d' "$1" | tr -d ' \n' | sed 's/../\\x&/g')"
+  local pairs
+  if [ -d "$1" ] || [ ! -r "$1" ]; then fail "$1 can't be read as a text"; fi
+  pairs=$(awk -v file="$1" '
+    /^=/ { next }
+    { sub(/#.*/, "") }
+    {
+      for (i = 1; i <= NF; i++) {
+        if ($i !~ /^([0-9A-Fa-f][0-9A-Fa-f])+$/) {
+          printf "%s:%d: \"%s\" is not made of pairs of hexadecimal digits\n", file, NR, $i > "/dev/stderr"
+          exit 1
+        }
+        print $i
+      }
+    }' "$1") || exit 1
+  printf '%b' "$(tr -d '\n' <<<"$pairs" | sed 's/../\\x&/g')" 2>/dev/null || fail "the bytes can't be written"
 }
 
 # Runs cargo in tests/rust, with all that it builds under target/.

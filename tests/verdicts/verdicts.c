@@ -1,11 +1,11 @@
 /*
- * defect_coder [FILE]: reads a table from a file or from standard input and prints the two verdicts on it, as
+ * verdicts [FILE]: reads a table from a file or from standard input and prints both verdicts on it, by the four functions
+ * of bil.h, each in the words of bilrun and whatever the other one says:
  *
- *     check CODE PLACE
+ *     verdict CODE PLACE
  *     seal CODE PLACE
  *
- * It stands for the defect coder: a C program over bil.h that gets its tables from others. Ends with 1 where the table
- * can't be read.
+ * Ends with 1 where the table can't be read.
  */
 #include "bil.h"
 
@@ -38,10 +38,10 @@ int main(int count, char **words)
     uint8_t *table;
     size_t length;
     if (file == NULL || !read_all(file, &table, &length)) {
-        fprintf(stderr, "defect_coder: the table can't be read\n");
+        fprintf(stderr, "verdicts: the table can't be read\n");
         return 1;
     }
-    printf("check %" PRIu32 " %" PRIu32 "\n", bil_check_code(table, length), bil_check_place(table, length));
+    printf("verdict %" PRIu32 " %" PRIu32 "\n", bil_check_code(table, length), bil_check_place(table, length));
     printf("seal %" PRIu32 " %" PRIu32 "\n", bil_seal_code(table, length), bil_seal_place(table, length));
     free(table);
     return fflush(stdout) != 0;
