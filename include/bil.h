@@ -204,7 +204,7 @@ static inline const char *bil_code_text(uint64_t code)
     case BIL_SEAL: return "a load or store at a sealed address, or a sealed value bound to an open let variable";
     case BIL_STATEMENT_SEAL: return "a sealed value moved to an open variable, a sealed jump or guard";
     case BIL_START: return "the state is not 2V numbers (place 0); the log is not a multiple of 4 numbers or over 65,536 entries (1); "
-                           "its count is over its room (2); the next address is not below 2^A (3)";
+                           "the log's count is over its room (2); the next address is not below 2^A (3)";
     case BIL_ENTRY: return "an entry of the log breaks the log's rules";
     case BIL_PAIR: return "a pair that the variable can't have, or a let variable that is not absent";
     case BIL_GUARD: return "a guard is unknown";
