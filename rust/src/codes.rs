@@ -148,7 +148,7 @@ const CODES: [(Code, Kind, &str); 18] = [
         Code::Start,
         Kind::Start,
         "the state is not 2V numbers (place 0); the log is not a multiple of 4 numbers or over 65,536 entries (1); \
-         its count is over its room (2); the next address is not below 2^A (3)",
+         the log's count is over its room (2); the next address is not below 2^A (3)",
     ),
     (Code::Entry, Kind::Entry, "an entry of the log breaks the log's rules"),
     (Code::Pair, Kind::Variable, "a pair that the variable can't have, or a let variable that is not absent"),
