@@ -11,6 +11,14 @@ SHELL := /bin/bash
 .PHONY: all check install uninstall clean
 
 PREFIX ?= /usr/local
+# a blank or a quote in them would put or remove files elsewhere
+odd := $(findstring ',$(PREFIX)$(DESTDIR))
+ifeq ($(odd),)
+odd := $(shell printf '%s' '$(PREFIX)$(DESTDIR)' | tr -c 'A-Za-z0-9._/+-' '!' | tr -dc '!')
+endif
+ifneq ($(odd),)
+$(error PREFIX and DESTDIR are paths of letters, digits and . _ / + - alone)
+endif
 prefix := $(abspath $(PREFIX))
 libexec := $(prefix)/libexec/bil
 programs := bilrun
@@ -43,14 +51,14 @@ install: all
 	install -m 644 $(archive) $(shared) $(DESTDIR)$(prefix)/lib
 	ln -sf $(notdir $(shared)) $(DESTDIR)$(prefix)/lib/$(soname)
 	ln -sf $(soname) $(DESTDIR)$(prefix)/lib/libbil.so
-	sed $(filled) packaging/bil.pc.in >$(DESTDIR)$(prefix)/lib/pkgconfig/bil.pc
+	sed $(filled) packaging/bil.pc.in | install -m 644 /dev/stdin $(DESTDIR)$(prefix)/lib/pkgconfig/bil.pc
 	install -m 644 docs/FORMAT.md $(DESTDIR)$(prefix)/share/doc/bil
 	install -m 755 packaging/launcher $(DESTDIR)$(libexec)
 	for name in $(programs); do \
 	  install -m 755 target/bin/$$name $(DESTDIR)$(libexec); \
-	  printf '#!/bin/sh\nexec "%s/launcher" %s $(if $(EMULATOR),$(EMULATOR) )"%s/%s" -- "$$@"\n' $(libexec) $$name $(libexec) $$name >$(DESTDIR)$(prefix)/bin/$$name; \
-	  chmod 755 $(DESTDIR)$(prefix)/bin/$$name; \
-	  sed $(filled) packaging/$$name.1.in >$(DESTDIR)$(prefix)/share/man/man1/$$name.1; \
+	  printf '#!/bin/sh\nexec "%s/launcher" %s $(if $(EMULATOR),$(EMULATOR) )"%s/%s" -- "$$@"\n' $(libexec) $$name $(libexec) $$name | \
+	    install -m 755 /dev/stdin $(DESTDIR)$(prefix)/bin/$$name; \
+	  sed $(filled) packaging/$$name.1.in | install -m 644 /dev/stdin $(DESTDIR)$(prefix)/share/man/man1/$$name.1; \
 	done
 
 uninstall:

@@ -18,7 +18,8 @@ fn own() -> Result<PathBuf, String> {
     Ok(PathBuf::from(said("CARGO_MANIFEST_DIR")).join("../target/staticlib"))
 }
 
-/// The folder of the archive, from the root on: the linker is called from folders of cargo's choice.
+/// The folder of the archive, from the root on: the linker is called from folders of cargo's choice. A name that doesn't
+/// start at the root is taken from the folder of this crate, where cargo runs this script.
 fn folder() -> Result<PathBuf, String> {
     let named = env::var_os("BIL_ARCHIVE").filter(|folder| !folder.is_empty()).map(PathBuf::from);
     let folder = named.map_or_else(own, Ok)?;
@@ -27,7 +28,7 @@ fn folder() -> Result<PathBuf, String> {
         _ => Err(format!(
             "there is no {}: run 'make' or 'rt staticlib bil' in the repository, \
              or name the folder of libbil.a in BIL_ARCHIVE",
-            folder.join("libbil.a").display()
+            env::current_dir().unwrap_or_default().join(folder).join("libbil.a").display()
         )),
     }
 }

@@ -4,7 +4,7 @@
 # Rattle's programs and archives are for x86-64. On such a machine they run as they are; on another one C is
 # cross-compiled and all runs under an emulator.
 
-root=$(cd "$(dirname "${BASH_SOURCE[0]}")/.." && pwd -P)
+root=$(CDPATH='' cd -- "$(dirname "${BASH_SOURCE[0]}")/.." && pwd -P)
 work=$root/target/tests    # what the tests build; target/ is not committed
 machine=$(uname -m)
 
@@ -169,22 +169,23 @@ build_driver() { # GROUP
 
 # Prints the bytes of a table written as text: '#' starts a comment, a line that starts with '=' is none of the table, and the
 # rest is pairs of hexadecimal digits, with or without blanks between pairs. Anything else is told with its line, and no byte
-# is printed.
+# is printed. Lines may end as on Unix or on Windows.
 table_bytes() { # FILE
-  local pairs
-  if [ -d "$1" ] || [ ! -r "$1" ]; then fail "$1 can't be read as a text"; fi
-  pairs=$(awk -v file="$1" '
+  local pairs why
+  why=$({ : <"$1"; } 2>&1) || fail "$1 can't be opened: ${why##*: }"
+  [ ! -d "$1" ] || fail "$1 is a folder, and no text"
+  pairs=$(file=$1 awk '
     /^=/ { next }
-    { sub(/#.*/, "") }
+    { sub(/#.*/, ""); sub(/\r$/, "") }
     {
       for (i = 1; i <= NF; i++) {
         if ($i !~ /^([0-9A-Fa-f][0-9A-Fa-f])+$/) {
-          printf "%s:%d: \"%s\" is not made of pairs of hexadecimal digits\n", file, NR, $i > "/dev/stderr"
+          printf "%s:%d: \"%s\" is not made of pairs of hexadecimal digits\n", ENVIRON["file"], NR, $i > "/dev/stderr"
           exit 1
         }
         print $i
       }
-    }' "$1") || exit 1
+    }' <"$1") || exit 1
   printf '%b' "$(tr -d '\n' <<<"$pairs" | sed 's/../\\x&/g')" 2>/dev/null || fail "the bytes can't be written"
 }
 

@@ -2,11 +2,12 @@
 //!
 //!     cargo run --example roll -- ../examples/packet_little.table
 //!
-//! Where the file can't be read, a verdict refuses the table or the run doesn't come to its end, it says so on standard
-//! error and ends with 1; where not just one file is named it ends with 2.
+//! Where the file can't be read, a verdict refuses the table, the run doesn't come to its end or the lines can't be written,
+//! it says so on standard error and ends with 1; where not just one file is named it ends with 2.
 
 use bil::{check, seal_check, Ending, Machine};
 use std::error::Error;
+use std::io::{self, Write};
 use std::path::{Path, PathBuf};
 use std::process::ExitCode;
 use std::{env, fs};
@@ -16,17 +17,18 @@ const BUDGET: u32 = 10_000;
 
 /// Prints what comes of a table; the error is what keeps more from coming.
 fn roll(name: &Path) -> Result<(), Box<dyn Error>> {
+    let mut out = io::stdout().lock();
     let table = fs::read(name)?;
     check(&table)?;
-    println!("check: accepted");
+    writeln!(out, "check: accepted")?;
     seal_check(&table)?;
-    println!("seal check: clean");
+    writeln!(out, "seal check: clean")?;
     let mut machine = Machine::for_table(&table, ENTRIES)?;
     let (ending, ticks) = machine.run(&table, BUDGET);
-    println!("run: {ticks} ticks, {ending}");
+    writeln!(out, "run: {ticks} ticks, {ending}")?;
     let mut variable = 0;
     while let Some(value) = machine.get(variable) {
-        println!("variable {variable}: {value}");
+        writeln!(out, "variable {variable}: {value}")?;
         variable += 1;
     }
     match ending {

@@ -30,6 +30,9 @@
 //! ones are answered by a [`Refusal`]. A number from the library that its rules don't have is a fault of the library, and
 //! panics.
 //!
+//! A call needs stack: 256 KiB are enough for every table and every budget (measured, not proved). A thread with less may
+//! overflow its stack, which ends the program.
+//!
 //! The archive is for x86-64 Linux. `BIL_ARCHIVE` names the folder of a libbil.a that stands elsewhere than in the
 //! repository's target/staticlib.
 
