@@ -1,3 +1,6 @@
 pub mod BudgetLaws
+pub mod Counterexamples
 pub mod IdleLaws
-pub mod Proofs
+pub mod NumberLaws
+pub mod RuleLaws
+pub mod Theorems

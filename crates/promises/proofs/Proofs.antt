@@ -1,95 +1,57 @@
--- A call that keeps its contract gives what the rules give, and of the rules the three demands are proved. Assumes nothing.
-use mathlib.Core.Path.{_≡_, refl, sym, subst, _∙_}
-use mathlib.Core.List.{List, [], _++_}
-use mathlib.Core.Logic.{_↔_}
+-- The code and the C functions give what the rules give, to whatever is lent: so the three demands hold of them. Assumes nothing.
+use mathlib.Core.Path.{_≡_, refl, sym, ap, ap₂, subst, _∙_}
+use mathlib.Core.Bool.{Bool}
+use mathlib.Core.List.{List, [], _∷_}
 use Prim.Native.Nat.{ℕ}
+use lib.ListN.{length, getD}
 use denote.Ref.{RefT, now}
+use borrow.Author.Tests.{eq-eqb, ne-eqb}
 use Rattle.base.specs.declared.Answer.{Answer}
-use Rattle.base.specs.declared.Answer.the-variants.{Accepted, Refused}
-use Rattle.base.specs.Refusals.{FirstFault}
-use Rattle.table.specs.Decode.{context}
-use Rattle.typing.specs.Verdict.{checkRules, check}
-use Rattle.sealing.specs.Sealing.{SealHolds}
-use Rattle.sealing.specs.Verdict.{sealRules, sealCheck}
-use Rattle.memory.specs.Log.{entries}
-use Rattle.memory.specs.Typed.{Has}
-use Rattle.evaluation.specs.State.{inState}
+use Rattle.base.specs.Choice.{if_then_else_}
+use Rattle.base.specs.Refusals.{codeOf, placeOf}
+use Rattle.typing.specs.Verdict.{check}
+use Rattle.sealing.specs.Verdict.{sealCheck}
 use Rattle.running.specs.Start.{Start}
 use Rattle.running.specs.Result.{Accepts, Result, result, ran, nextStart}
+use Rattle.running.proofs.StartLaws.{result-ran}
 use Rattle.running.proofs.AcceptedLaws.{next-accepts}
-use Rattle.secrecy.specs.Agreement.{SameResult}
 use Rattle.runner.specs.declared.Outcome.{Outcome}
 use Rattle.runner.specs.Given.{Gives}
-use Rattle.demands.specs.Demands.{rules, RulesHold}
-use Rattle.demands.proofs.Proofs as Rules
-use Rattle.promises.specs.Promises.{call, Checks, SealChecks, Runs, RunsAccepted, Parameters, resultOf, Demand1, Demand2, Demand3, Kept}
+use Rattle.demands.specs.Demands.{Library, answerOf, Demand1, Demand2, Demand3}
+use Rattle.demands.proofs.Theorems as Demands
+use Rattle.demands.proofs.NumberLaws.{check-told, seal-told, run-told}
+use Rattle.bil.specs.RunCall.{Left, left, numbers}
+use Rattle.bil.specs.RunCall as Outside
+use Rattle.promises.specs.Promises.{call, Parameters, resultOf, code, fromAccepted}
+use Rattle.promises.specs.Promises.{CheckCode, CheckPlace, SealCode, SealPlace, RunCall, Answered, answered, told, Returned, returned, inC}
+use Rattle.promises.specs.Promises.{Room, NothingAsked}
 
 -- ------------------------------------------------------------------------------------------------
--- What a call gives
+-- The code's entries
 
-pub checks : {s : List ℕ} {r : Answer} → Checks s r → r ≡ check s
+checks : {s : List ℕ} {r : Answer} → code .check s r → r ≡ check s
 checks (call κ a r exit asked kept) = kept
 
-pub seal-checks : {s : List ℕ} {r : Answer} → SealChecks s r → r ≡ sealCheck s
+seal-checks : {s : List ℕ} {r : Answer} → code .seal s r → r ≡ sealCheck s
 seal-checks (call κ a r exit asked kept) = kept
 
 all : {x : Result} {r : Outcome} (exit : Parameters) → Gives x r (now (exit .1 .0)) (now (exit .1 .1 .0)) → resultOf r exit ≡ x
 all exit g = rw (g .ending, g .ticks, g .count, g .next, g .state, g .log)
 
-pub runs : {s : Start} {r : Result} → Runs s r → r ≡ result s
+runs : {s : Start} {r : Result} → code .run s r → r ≡ result s
 runs (call κ a r exit asked kept) = all exit kept
 
-runs-accepted : {s : Start} {r : Result} → RunsAccepted s r → r ≡ ran s
-runs-accepted (call κ a r exit asked kept) = all exit (kept .0)
+runs-accepted : {s : Start} {r : Result} → fromAccepted .run s r → r ≡ result s
+runs-accepted (call κ a r exit asked kept) = all exit (kept .0) ∙ sym (result-ran _ asked)
 
-accepted-again : {s : Start} {r : Result} → RunsAccepted s r → (budget : ℕ) → Accepts (nextStart s r budget)
-unfolding nextStart
-accepted-again (call κ a r exit asked kept) = kept .1
+code-gives : Demands.Gives code
+code-gives = record { check = checks; seal = seal-checks; run = runs }
 
--- ------------------------------------------------------------------------------------------------
--- The demands
-
-pub demand-1 : Demand1
-unfolding rules
-demand-1 =
-    record {
-      takes-table = (λ κ a. tt, λ κ a. tt);
-      takes-start = λ κ a. tt;
-      check = λ s r c code place.
-          subst (λ (x : Answer). (x ≡ Refused code place) ↔ FirstFault (checkRules s) code place) (sym (checks c)) (Rules.demand-1 .check s code place);
-      seal = λ s r c code place.
-          subst (λ (x : Answer). (x ≡ Refused code place) ↔ FirstFault (checkRules s ++ sealRules s) code place) (sym (seal-checks c))
-          (Rules.demand-1 .seal s code place);
-      run = λ s r c code place f. runs c ∙ Rules.demand-1 .run s code place f;
-    }
-
-pub demand-2 : Demand2
-unfolding rules nextStart
-demand-2 =
-    record {
-      verdict = λ s r c. subst (λ (x : Answer). (x ≡ Accepted) ↔ RulesHold s) (sym (checks c)) (Rules.demand-2 .verdict s);
-      seal = λ s r c. subst (λ (x : Answer). (x ≡ Accepted) ↔ (RulesHold s × SealHolds s)) (sym (seal-checks c)) (Rules.demand-2 .seal s);
-      run = λ s r c a. runs c ∙ Rules.demand-2 .run s a;
-      types = λ s r c a x h.
-          subst (λ (r : Result). Has (entries (r .log) (r .count)) (inState (r .state) (context (s .table) .type x) x) (context (s .table) .type x))
-          (sym (runs c)) (Rules.demand-2 .types s a x h);
-      again = λ s r c a budget. subst (λ (r : Result). Accepts (nextStart s r budget)) (sym (runs c)) (Rules.demand-2 .again s a budget);
-      run-accepted = λ s r c. runs-accepted c;
-      again-accepted = λ s r. accepted-again;
-    }
-
-pub demand-3 : Demand3
-unfolding rules
-demand-3 s t r q clean agreeing c d =
-    let same = Rules.demand-3 s t agreeing (sym (seal-checks clean)) in
-    subst (λ (x : Result). SameResult (s .table) x q) (sym (runs c))
-    (subst (λ (y : Result). SameResult (s .table) (result s) y) (sym (runs d)) same)
-
--- ------------------------------------------------------------------------------------------------
--- What the rules give keeps the contracts
+accepted-gives : Demands.Gives fromAccepted
+accepted-gives = record { check = checks; seal = seal-checks; run = runs-accepted }
 
 -- some reference to a list
-abbrev pub ref : List ℕ → RefT (List ℕ)
+abbrev ref : List ℕ → RefT (List ℕ)
 ref l = record { ptr = (0, 0); name = 0; now = l }
 
 abbrev outcomeOf : Result → Outcome
@@ -101,13 +63,131 @@ gives x = record { ending = refl; ticks = refl; count = refl; next = refl; state
 abbrev lend : Start → List ℕ → List ℕ → Parameters
 lend s state log = (ref (s .table), (ref state, (ref log, (s .count, (s .next, (s .budget, tt))))))
 
-pub kept : Kept
-unfolding nextStart
-kept =
+-- what the rules give keeps the contracts, of whatever is taken
+code-takes : Demands.Takes code
+code-takes =
     record {
       check = λ s. call ([], tt) (ref s, tt) (check s) (ref s, tt) tt refl;
       seal = λ s. call ([], tt) (ref s, tt) (sealCheck s) (ref s, tt) tt refl;
       run = λ s. let x = result s in call ([], ([], ([], tt))) (lend s (s .state) (s .log)) (outcomeOf x) (lend s (x .state) (x .log)) tt (gives x);
-      run-accepted = λ s a.
-          let x = ran s in call ([], ([], ([], tt))) (lend s (s .state) (s .log)) (outcomeOf x) (lend s (x .state) (x .log)) a (gives x, next-accepts s a);
+    }
+
+-- and a run of an accepted start can be asked for
+pub accepted-takes : (s : Start) → Accepts s → fromAccepted .run s (ran s)
+unfolding nextStart
+accepted-takes s a =
+    let x = ran s in call ([], ([], ([], tt))) (lend s (s .state) (s .log)) (outcomeOf x) (lend s (x .state) (x .log)) a (gives x, next-accepts s a)
+
+-- ------------------------------------------------------------------------------------------------
+-- What C calls
+
+check-code : {s : List ℕ} {n : ℕ} → CheckCode s n → n ≡ codeOf (check s)
+check-code (call κ a r exit asked kept) = kept
+
+check-place : {s : List ℕ} {n : ℕ} → CheckPlace s n → n ≡ placeOf (check s)
+check-place (call κ a r exit asked kept) = kept
+
+seal-code : {s : List ℕ} {n : ℕ} → SealCode s n → n ≡ codeOf (sealCheck s)
+seal-code (call κ a r exit asked kept) = kept
+
+seal-place : {s : List ℕ} {n : ℕ} → SealPlace s n → n ≡ placeOf (sealCheck s)
+seal-place (call κ a r exit asked kept) = kept
+
+called : {x : Start × List ℕ} {l : Left} → RunCall x l → l ≡ Outside.call (x .0) (x .1)
+called (call κ a r exit asked kept) = kept
+
+-- what a call leaves, by the test for room
+module _ (s : Start) (o : List ℕ) where
+  abbrev by : Bool → Left
+  by t = let x = result s in if t then left 1 (x .state) (x .log) (numbers x) else left 0 (s .state) (s .log) o
+
+  with-room : {l : Left} → RunCall (s, o) l → length o ≡ 5 → l ≡ left 1 (result s .state) (result s .log) (numbers (result s))
+  with-room c h = called c ∙ ap by (eq-eqb _ _ h)
+
+  without : {l : Left} → RunCall (s, o) l → (length o ≡ 5 → ⊥) → l ≡ left 0 (s .state) (s .log) o
+  without c h = called c ∙ ap by (ne-eqb _ _ h)
+
+-- the five numbers tell the result
+told-is : (s : Start) → told (left 1 (result s .state) (result s .log) (numbers (result s))) ≡ result s
+told-is s = rw (run-told s) refl
+
+answered-check : {s : List ℕ} {r : Answer} → Answered CheckCode CheckPlace s r → r ≡ check s
+answered-check {s} (answered code place c p) = ap₂ answerOf (check-code c) (check-place p) ∙ check-told s
+
+answered-seal : {s : List ℕ} {r : Answer} → Answered SealCode SealPlace s r → r ≡ sealCheck s
+answered-seal {s} (answered code place c p) = ap₂ answerOf (seal-code c) (seal-place p) ∙ seal-told s
+
+returned-run : {s : Start} {r : Result} → Returned s r → r ≡ result s
+returned-run {s} (returned out l h c) = ap told (with-room s out c h) ∙ told-is s
+
+c-gives : Demands.Gives inC
+c-gives = record { check = answered-check; seal = answered-seal; run = returned-run }
+
+run-call : (s : Start) (o : List ℕ) → RunCall (s, o) (Outside.call s o)
+run-call s o =
+    let l = Outside.call s o in
+    call ([], ([], ([], ([], tt)))) (ref (s .table), (ref (s .state), (ref (s .log), (s .count, (s .next, (s .budget, (ref o, tt)))))))
+    (l .answer) (ref (s .table), (ref (l .state), (ref (l .log), (s .count, (s .next, (s .budget, (ref (l .out), tt))))))) tt refl
+
+c-takes : Demands.Takes inC
+c-takes =
+    record {
+      check = λ s.
+          subst (Answered CheckCode CheckPlace s) (check-told s)
+          (answered (codeOf (check s)) (placeOf (check s)) (call ([], tt) (ref s, tt) (codeOf (check s)) (ref s, tt) tt refl)
+          (call ([], tt) (ref s, tt) (placeOf (check s)) (ref s, tt) tt refl));
+      seal = λ s.
+          subst (Answered SealCode SealPlace s) (seal-told s)
+          (answered (codeOf (sealCheck s)) (placeOf (sealCheck s)) (call ([], tt) (ref s, tt) (codeOf (sealCheck s)) (ref s, tt) tt refl)
+          (call ([], tt) (ref s, tt) (placeOf (sealCheck s)) (ref s, tt) tt refl));
+      run = λ s. subst (Returned s) (told-is s) (returned (0 ∷ 0 ∷ 0 ∷ 0 ∷ 0 ∷ []) _ refl (run-call s (0 ∷ 0 ∷ 0 ∷ 0 ∷ 0 ∷ [])));
+    }
+
+-- ------------------------------------------------------------------------------------------------
+-- The demands
+
+pub demand-1 : Demand1 code
+demand-1 = Demands.demand-1 code code-gives code-takes
+
+pub demand-2 : Demand2 code
+demand-2 = Demands.demand-2 code code-gives
+
+pub demand-3 : Demand3 code
+demand-3 = Demands.demand-3 code code-gives
+
+pub accepted-demand-2 : Demand2 fromAccepted
+accepted-demand-2 = Demands.demand-2 fromAccepted accepted-gives
+
+pub accepted-demand-3 : Demand3 fromAccepted
+accepted-demand-3 = Demands.demand-3 fromAccepted accepted-gives
+
+pub c-demand-1 : Demand1 inC
+c-demand-1 = Demands.demand-1 inC c-gives c-takes
+
+pub c-demand-2 : Demand2 inC
+c-demand-2 = Demands.demand-2 inC c-gives
+
+pub c-demand-3 : Demand3 inC
+c-demand-3 = Demands.demand-3 inC c-gives
+
+pub room : Room
+room =
+    record {
+      there = λ s out l c h. (ap (λ (x : Left). x .answer) (with-room s out c h), ap (λ (x : Left). length (x .out)) (with-room s out c h));
+      missing = λ s out l. without s out;
+    }
+
+pub nothing-asked : NothingAsked
+nothing-asked =
+    record {
+      bil-check-code = λ κ a. tt;
+      bil-check-place = λ κ a. tt;
+      bil-seal-code = λ κ a. tt;
+      bil-seal-place = λ κ a. tt;
+      bil-word-kind = λ κ a. tt;
+      bil-word-value = λ κ a. tt;
+      bil-run = λ κ a. tt;
+      check = λ κ a. tt;
+      seal-check = λ κ a. tt;
+      run = λ κ a. tt;
     }

@@ -47,9 +47,7 @@ finished-agrees table s t l m budget e =
       values = rw (entries-holding (s .log) (l .log), entries-holding (t .log) (m .log)) (world-agrees (e .world));
     }
 
--- "Two accepted starts of a table with a clean seal verdict, with the same budget, next address, log room and log count, that agree
--- in the value of each open variable, give the same answer, place, ticks, next address and log count, and the same final value of
--- each open variable", for every budget, stops included.
+-- Demand 3 of what the rules give (docs/ORDER.md has its words), for every budget, stops included.
 pub demand-3-over-rules : (s t : Start) → Agreeing s t → Clean (context (s .table)) (program (s .table)) → SameResult (s .table) (result s) (result t)
 unfolding ran
 demand-3-over-rules s t A clean =

@@ -1,4 +1,4 @@
--- Demand 3: what two starts must share, and what their runs then share. The words quoted are the mission's. Assumes nothing.
+-- Demand 3: what two starts must share, and what their runs then share. The words quoted are the order's (docs/ORDER.md). Assumes nothing.
 use mathlib.Core.Path.{_≡_}
 use mathlib.Core.Bool.{false}
 use mathlib.Core.List.{List}
@@ -16,8 +16,8 @@ use Rattle.running.specs.Result.{Result, Accepts}
 -- ------------------------------------------------------------------------------------------------
 -- Values are compared, not pairs
 
--- What a value says. A memory's value is the list of its stores, newest first, so heads and previous numbers may differ where these
--- lists agree (docs/DECISIONS.md, demand 3).
+-- What a value says. "A memory's value is its stores, newest first": heads and previous numbers may differ where these lists agree
+-- (docs/DECISIONS.md, demand 3).
 pub data Content : Type 0 where
   word : ℕ → ℕ → Content
   unknown : ValueType → Content
@@ -29,8 +29,8 @@ content L (Word w v) = word w v
 content L (Unknown t) = unknown t
 content L (Memory w head) = memory w (chain L head)
 
--- "agree in the value of each open variable": two states with their logs, the variables numbered below n. An absent variable and an
--- unknown one have the same value: `inState` reads both as unknown.
+-- "agree in the value of each open variable": two states with their logs, the variables numbered below n. "an absent variable's is
+-- unknown": `inState` reads it so.
 abbrev pub Agree : Context → ℕ → Log → Log → List ℕ → List ℕ → Type 0
 Agree Γ n L M σ τ =
     (x : ℕ) → x < n → Γ .sealed x ≡ false → content L (inState σ (Γ .type x) x) ≡ content M (inState τ (Γ .type x) x)
@@ -38,8 +38,8 @@ Agree Γ n L M σ τ =
 -- ------------------------------------------------------------------------------------------------
 -- Two starts, two results
 
--- "Two accepted starts of a table .., with the same budget, next address, log room and log count, that agree in the value of each
--- open variable"
+-- "Take two accepted starts of it with the same budget, next address, log room and log count, which agree in the value of each open
+-- variable and may differ in every sealed one."
 pub record Agreeing (s t : Start) : Type 0 where
   pub accepted : Accepts s
   pub accepted′ : Accepts t
@@ -50,8 +50,8 @@ pub record Agreeing (s t : Start) : Type 0 where
   pub count : s .count ≡ t .count
   pub values : Agree (context (s .table)) (header (s .table) .variables) (logOf s) (logOf t) (s .state) (t .state)
 
--- "give the same answer, place, ticks, next address and log count, and the same final value of each open variable". Entries that
--- no open head reaches may differ.
+-- "Both runs give the same answer, place, tick count, next address and log count, and the same final value of each open variable."
+-- Entries that no open head reaches may differ.
 pub record SameResult (table : List ℕ) (r q : Result) : Type 0 where
   pub ending : r .ending ≡ q .ending  -- answer and place
   pub ticks : r .ticks ≡ q .ticks
