@@ -1,4 +1,6 @@
 pub mod Examples
+pub mod Limits
+pub mod Orders
 pub mod Refused
 pub mod Runs
 pub mod Secrets

@@ -23,7 +23,7 @@ pub data Ask : Type 0 where
   seal : List ℕ → Ask
   run : Start → Ask
 
-pub answer : Ask → ℕ × ℕ
+unfoldable pub answer : Ask → ℕ × ℕ
 answer (check s) = let a = Types.check s in (codeOf a, placeOf a)
 answer (seal s) = let a = Seals.sealCheck s in (codeOf a, placeOf a)
 answer (run s) = let a = Results.result s .ending in (Results.codeOf a, Results.placeOf a)
@@ -33,7 +33,7 @@ pub record Row : Type 0 where
   pub gives : ℕ × ℕ
 
 infix 5 _gives_at_
-_gives_at_ : Ask → ℕ → ℕ → Row
+unfoldable pub _gives_at_ : Ask → ℕ → ℕ → Row
 q gives code at place = record { ask = q; gives = (code, place) }
 
 -- ------------------------------------------------------------------------------------------------
@@ -49,7 +49,7 @@ variables : List Variable
 variables = immediate 8 ∷ asLet (immediate 8) ∷ memory 8 ∷ sealed (immediate 8) ∷ []
 
 -- expressions and statements over those variables
-with : List Node → List Node → List ℕ
+unfoldable pub with : List Node → List Node → List ℕ
 unfolding assembled variables
 with = assembled 8 variables
 
@@ -72,7 +72,7 @@ from : List ℕ → List ℕ → List ℕ → ℕ → ℕ → Start
 from table state log count next = record { table = table; state = state; log = log; count = count; next = next; budget = 10 }
 
 -- the 72 bytes
-begun : List ℕ → List ℕ → ℕ → ℕ → Start
+unfoldable pub begun : List ℕ → List ℕ → ℕ → ℕ → Start
 unfolding paper from
 begun = from paper
 
@@ -189,12 +189,24 @@ typeRows =
 -- ------------------------------------------------------------------------------------------------
 -- Seals: 14 and 15
 
+-- an open byte, a sealed one, a let's sealed byte and a let's open one; three expressions, the last of them moved to the open byte
+letting : List Node → List ℕ
+unfolding assembled
+letting expressions =
+    assembled 8 (immediate 8 ∷ sealed (immediate 8) ∷ sealed (asLet (immediate 8)) ∷ asLet (immediate 8) ∷ []) expressions (move 0 2 ∷ [])
+
 sealRows : List Row
-unfolding _gives_at_ of with
+unfolding _gives_at_ of with letting
 sealRows =
     (seal (of (var 2 ∷ var 3 ∷ load 8 0 0 1 ∷ [])) gives 14 at 2)  -- a load's sealed address
     ∷ (seal (with (var 2 ∷ var 3 ∷ word 8 5 ∷ store 8 0 0 1 2 ∷ []) (move 2 3 ∷ [])) gives 14 at 3)  -- a store's sealed address
     ∷ (seal (of (var 3 ∷ var 1 ∷ lets 1 0 1 ∷ [])) gives 14 at 2)  -- an open let of what is sealed
+    -- "A let has its body's label.": what is sealed, bound to a sealed variable, and an open body; beside it the same with an open variable, "a let
+    -- whose bound expression is sealed and whose variable is open"; then a body that reads the sealed variable, whatever is bound to it
+    ∷ (seal (letting (var 1 ∷ word 8 5 ∷ lets 2 0 1 ∷ [])) gives 0 at 0)
+    ∷ (seal (letting (var 1 ∷ word 8 5 ∷ lets 3 0 1 ∷ [])) gives 14 at 2)
+    ∷ (seal (letting (var 1 ∷ var 2 ∷ lets 2 0 1 ∷ [])) gives 15 at 0)
+    ∷ (seal (letting (word 8 5 ∷ var 2 ∷ lets 2 0 1 ∷ [])) gives 15 at 0)
     ∷ (seal (of (var 3 ∷ [])) gives 15 at 0)  -- what is sealed, moved to an open variable
     ∷ (seal (with (var 3 ∷ []) (move 3 0 ∷ [])) gives 0 at 0)  -- moved to a sealed one
     ∷ (seal (with (var 3 ∷ []) (cpuexn 0 ∷ jmp 0 ∷ [])) gives 15 at 1)  -- a sealed jump
@@ -202,14 +214,13 @@ sealRows =
     ∷ []
 
 -- ------------------------------------------------------------------------------------------------
--- Starts: 16 to 18
+-- Starts: 16 to 18. A log of 65,536 entries and one of 65,537 are in Limits.
 
 startRows : List Row
 unfolding _gives_at_ begun jumped absent
 startRows =
     (run (begun (0 ∷ []) [] 0 0) gives 16 at 0)  -- a state of one number
     ∷ (run (begun (0 ∷ 0 ∷ []) (0 ∷ []) 0 0) gives 16 at 1)  -- a log of one number
-    ∷ (run (begun (0 ∷ 0 ∷ []) (replicate 262148 0) 0 0) gives 16 at 1)  -- 65,537 entries
     ∷ (run (begun (0 ∷ 0 ∷ []) (replicate 8 0) 3 0) gives 16 at 2)  -- three entries in room for two
     ∷ (run (begun (0 ∷ 0 ∷ []) [] 0 256) gives 16 at 3)  -- next address 2^A
     ∷ (run (begun (0 ∷ 0 ∷ []) (1 ∷ 8 ∷ 0 ∷ 0 ∷ []) 1 0) gives 17 at 1)  -- its own previous

@@ -149,11 +149,29 @@ everyOp =
     ∷ [])
     (move 2 4 ∷ move 0 19 ∷ while 20 1 ∷ cpuexn 1 ∷ if 21 1 1 ∷ special 2 ∷ cpuexn 3 ∷ jmp 22 ∷ [])
 
+-- m := m with 5 at unknown; x := load of m at 0x10
+storeNowhere : List ℕ
+unfolding assembled
+storeNowhere =
+    assembled 8 (memory 8 ∷ immediate 8 ∷ [])
+    (var 0 ∷ unknown 8 ∷ word 8 5 ∷ store 8 0 0 1 2 ∷ var 0 ∷ word 8 0x10 ∷ load 8 0 4 5 ∷ [])
+    (move 0 3 ∷ move 1 6 ∷ [])
+
+-- cpuexn 7, special 9
+twoIdle : List ℕ
+unfolding assembled
+twoIdle = assembled 8 (immediate 8 ∷ memory 8 ∷ []) [] (cpuexn 7 ∷ special 9 ∷ [])
+
+-- jmp 0x20, jmp x
+jumpThenStop : List ℕ
+unfolding assembled
+jumpThenStop = assembled 8 (immediate 8 ∷ []) (word 8 0x20 ∷ var 0 ∷ []) (jmp 0 ∷ jmp 1 ∷ [])
+
 -- ------------------------------------------------------------------------------------------------
 -- The rows
 
 pub rows : List Row
-unfolding paper twoJumps countdown chained jumpTo topStore skipped endless storingGuard everyOp from empty
+unfolding paper twoJumps countdown chained jumpTo topStore skipped endless storingGuard everyOp storeNowhere twoIdle jumpThenStop from empty
 rows =
     -- "it prints verdict 0 0, seal 0 0, run 0 0 1 0 0, var 0 word 5"
     record {
@@ -245,6 +263,52 @@ rows =
             state = 1 ∷ 0x12 ∷ 0 ∷ 0 ∷ 3 ∷ 1 ∷ [];
             log = 0 ∷ 8 ∷ 0x10 ∷ 0x0f ∷ 0 ∷ 0 ∷ 0 ∷ 0 ∷ [];
           };
+    }
+    -- "A store to an unknown address appends nothing and gives unknown memory"; ".. or unknown memory makes it unknown": the load, of an address at which
+    -- the memory had a byte before
+    ∷ record {
+      start =
+          record {
+            table = storeNowhere;
+            state = 3 ∷ 1 ∷ 0 ∷ 0 ∷ [];
+            log = 0 ∷ 8 ∷ 0x10 ∷ 0x11 ∷ 0 ∷ 0 ∷ 0 ∷ 0 ∷ [];
+            count = 1;
+            next = 0;
+            budget = 10;
+          };
+      told =
+          record {
+            verdict = (0, 0);
+            seal = (0, 0);
+            run = (0, 0, 2, 1, 0);
+            state = 2 ∷ 0 ∷ 2 ∷ 0 ∷ [];
+            log = 0 ∷ 8 ∷ 0x10 ∷ 0x11 ∷ 0 ∷ 0 ∷ 0 ∷ 0 ∷ [];
+          };
+    }
+    -- "Cpuexn and special change nothing.": a tick each, and state, log, log count and next address are as given
+    ∷ record {
+      start =
+          record {
+            table = twoIdle;
+            state = 1 ∷ 3 ∷ 3 ∷ 1 ∷ [];
+            log = 0 ∷ 8 ∷ 0xff ∷ 0x12 ∷ 5 ∷ 6 ∷ 7 ∷ 8 ∷ [];
+            count = 1;
+            next = 0x21;
+            budget = 10;
+          };
+      told =
+          record {
+            verdict = (0, 0);
+            seal = (0, 0);
+            run = (0, 0, 2, 1, 0x21);
+            state = 1 ∷ 3 ∷ 3 ∷ 1 ∷ [];
+            log = 0 ∷ 8 ∷ 0xff ∷ 0x12 ∷ 5 ∷ 6 ∷ 7 ∷ 8 ∷ [];
+          };
+    }
+    -- "A jmp sets the next address and the rest of the block still runs": the second jmp stops with 33, and the first one's address is given back
+    ∷ record {
+      start = from jumpThenStop (0 ∷ 0 ∷ []) [] 10000;
+      told = record { verdict = (0, 0); seal = (0, 0); run = (33, 1, 2, 0, 0x20); state = 0 ∷ 0 ∷ []; log = [] };
     }
     ∷ []
 
