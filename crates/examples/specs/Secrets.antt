@@ -13,7 +13,7 @@ use Rattle.evaluation.specs.State.{inState}
 use Rattle.memory.specs.Log.{entries}
 use Rattle.running.specs.Start.{Start, logOf}
 use Rattle.running.specs.Result.{result}
-use Rattle.secrecy.specs.Agreement.{Agreeing, SameResult, content}
+use Rattle.secrecy.specs.Agreement.{Agree, Agreeing, SameResult, content}
 use Rattle.demands.specs.Demands.{rules}
 use Rattle.demands.proofs.Theorems.{demand-3, rules-give}
 
@@ -28,18 +28,27 @@ table =
     (var 1 ∷ word 8 5 ∷ var 0 ∷ store 8 0 2 1 0 ∷ word 8 1 ∷ [])
     (move 0 3 ∷ move 2 4 ∷ [])
 
--- a start in which the sealed byte is n
-unfoldable pub start : ℕ → Start
+-- a start in which the sealed byte is n and the open one absent (0) or unknown (2)
+unfoldable pub start : ℕ → ℕ → ℕ → Start
 unfolding table
-start n =
-    record { table = table; state = 0 ∷ 0 ∷ 1 ∷ n ∷ 0 ∷ 0 ∷ []; log = 0 ∷ 0 ∷ 0 ∷ 0 ∷ []; count = 0; next = 0; budget = 9 }
+start n kind budget =
+    record { table = table; state = 0 ∷ 0 ∷ 1 ∷ n ∷ kind ∷ 0 ∷ []; log = 0 ∷ 0 ∷ 0 ∷ 0 ∷ []; count = 0; next = 0; budget = budget }
 
 pub clean : sealCheck table ≡ Accepted
 unfolding sealCheck table
 clean = refl
 
--- the two starts agree in the value of each open variable, of which there is one
-pub agreeing : Agreeing (start 3) (start 9)
+-- two states agree in the value of each open variable where they agree in the one that there is
+one-open :
+    (σ τ : List ℕ) → content [] (inState σ (context table .type 2) 2) ≡ content [] (inState τ (context table .type 2) 2)
+    → Agree (context table) 3 [] [] σ τ
+unfolding table context
+one-open σ τ e zero h o = absurd (true≢false o)
+one-open σ τ e (suc zero) h o = absurd (true≢false o)
+one-open σ τ e (suc (suc zero)) h o = e
+one-open σ τ e (suc (suc (suc x))) h o = absurd (omega arith)
+
+pub agreeing : Agreeing (start 3 0 9) (start 9 0 9)
 unfolding start table context content result
 agreeing =
     record {
@@ -50,22 +59,16 @@ agreeing =
       next = refl;
       room = refl;
       count = refl;
-      values = values;
+      values = one-open (start 3 0 9 .state) (start 9 0 9 .state) refl;
     }
-  where
-    values : (x : ℕ) → x < 3 → context table .sealed x ≡ false → content [] (inState (start 3 .state) (context table .type x) x) ≡ content [] (inState (start 9 .state) (context table .type x) x)
-    values zero h o = absurd (true≢false o)
-    values (suc zero) h o = absurd (true≢false o)
-    values (suc (suc zero)) h o = refl
-    values (suc (suc (suc x))) h o = absurd (omega arith)
 
 -- so demand 3 speaks of them
-pub same : SameResult table (result (start 3)) (result (start 9))
+pub same : SameResult table (result (start 3 0 9)) (result (start 9 0 9))
 unfolding start
-same = demand-3 rules rules-give (start 3) (start 9) _ _ (sym clean) agreeing refl refl
+same = demand-3 rules rules-give (start 3 0 9) (start 9 0 9) _ _ (sym clean) agreeing refl refl
 
 -- though the logs that they leave differ in the sealed byte
-pub kept : (result (start 3) .log ≡ 0 ∷ 8 ∷ 5 ∷ 3 ∷ []) × (result (start 9) .log ≡ 0 ∷ 8 ∷ 5 ∷ 9 ∷ [])
+pub kept : (result (start 3 0 9) .log ≡ 0 ∷ 8 ∷ 5 ∷ 3 ∷ []) × (result (start 9 0 9) .log ≡ 0 ∷ 8 ∷ 5 ∷ 9 ∷ [])
 unfolding result start
 kept = (refl, refl)
 
@@ -148,16 +151,10 @@ unfolding result openFirst sealedFirst heads
 heads-left = (refl, refl, refl, refl)
 
 -- ------------------------------------------------------------------------------------------------
--- "an absent variable's is unknown": absent in one start and unknown in the other
+-- "an absent variable's is unknown": the open byte is absent in one start and unknown in the other, and the one tick doesn't come to it
 
--- the open byte of the first table
-unfoldable pub lost : ℕ → Start
-unfolding table
-lost kind =
-    record { table = table; state = 0 ∷ 0 ∷ 1 ∷ 3 ∷ kind ∷ 0 ∷ []; log = 0 ∷ 0 ∷ 0 ∷ 0 ∷ []; count = 0; next = 0; budget = 1 }
-
-pub lost-agree : Agreeing (lost 0) (lost 2)
-unfolding lost table context content result
+pub lost-agree : Agreeing (start 3 0 1) (start 3 2 1)
+unfolding start table context content result
 lost-agree =
     record {
       accepted = refl;
@@ -167,15 +164,9 @@ lost-agree =
       next = refl;
       room = refl;
       count = refl;
-      values = values;
+      values = one-open (start 3 0 1 .state) (start 3 2 1 .state) refl;
     }
-  where
-    values : (x : ℕ) → x < 3 → context table .sealed x ≡ false → content [] (inState (lost 0 .state) (context table .type x) x) ≡ content [] (inState (lost 2 .state) (context table .type x) x)
-    values zero h o = absurd (true≢false o)
-    values (suc zero) h o = absurd (true≢false o)
-    values (suc (suc zero)) h o = refl
-    values (suc (suc (suc x))) h o = absurd (omega arith)
 
-pub lost-same : SameResult table (result (lost 0)) (result (lost 2))
-unfolding lost
-lost-same = demand-3 rules rules-give (lost 0) (lost 2) _ _ (sym clean) lost-agree refl refl
+pub lost-same : SameResult table (result (start 3 0 1)) (result (start 3 2 1))
+unfolding start
+lost-same = demand-3 rules rules-give (start 3 0 1) (start 3 2 1) _ _ (sym clean) lost-agree refl refl
