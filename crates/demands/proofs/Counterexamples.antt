@@ -2,11 +2,13 @@
 use mathlib.Core.Path.{_≡_, refl, sym, ap, _∙_}
 use mathlib.Core.Bool.{false, true≢false}
 use mathlib.Core.List.{List, [], _∷_, _++_}
-use Prim.Native.Nat.{ℕ, zero, suc, _<_}
+use Prim.Native.Nat.{ℕ, zero, suc, _+_, _*_, _<_}
 use native.Mathlib.Omega.{arith}
+use lib.Dec.{eqb}
 use lib.ListN.{set}
 use Rattle.base.specs.declared.Answer.{Answer}
 use Rattle.base.specs.declared.Answer.the-variants.{Accepted, Refused}
+use Rattle.base.specs.Choice.{if_then_else_}
 use Rattle.base.specs.Refusals.{refusal}
 use Rattle.base.proofs.BoolLaws.{impossible}
 use Rattle.base.proofs.RefusalLaws.{refused-iff}
@@ -18,33 +20,33 @@ use Rattle.memory.specs.Log.{Cell, entries}
 use Rattle.evaluation.specs.State.{inState}
 use Rattle.running.specs.declared.Ending.the-variants as Endings
 use Rattle.running.specs.Start.{Start, logOf}
-use Rattle.running.specs.Result.{Result, result, runRules, refused}
+use Rattle.running.specs.Result.{Result, result, runRules, refused, nextStart}
 use Rattle.secrecy.specs.Agreement.{Agreeing, SameResult, Content, content}
-use Rattle.demands.specs.Demands.{ofFunctions, Demand1, Demand2, TypesKept, Demand3}
+use Rattle.demands.specs.Demands.{ofFunctions, Demand1, Demand2, TypesKept, StartsAgain, Demand3}
 use Rattle.demands.specs.Refuted.{silentCheck, silentSeal, silentRun, misplaced, lastFirst, accepting, refusingAll, atRefusal}
-use Rattle.demands.specs.Refuted.{withEnding, withTicks, withCount, withNext, withState, withLog, telling}
+use Rattle.demands.specs.Refuted.{withEnding, withTicks, withCount, withNext, withState, withLog, leaving, telling, storing}
 use Rattle.demands.proofs.RuleLaws.{check-iff, seal-iff}
 
 -- ------------------------------------------------------------------------------------------------
 -- What they are tried with
 
--- a sealed byte, an open byte, an open memory and a sealed one; nothing is done
+-- a sealed byte, an open byte, an open memory, a sealed one and one more open byte; nothing is done
 table : List ℕ
 unfolding assembled
-table = assembled 8 (sealed (immediate 8) ∷ immediate 8 ∷ memory 8 ∷ sealed (memory 8) ∷ []) [] (special 0 ∷ [])
+table = assembled 8 (sealed (immediate 8) ∷ immediate 8 ∷ memory 8 ∷ sealed (memory 8) ∷ immediate 8 ∷ []) [] (special 0 ∷ [])
 
--- the sealed byte is n, the open one 0, the open memory absent, n stands at 5 of the sealed one, and there is room for one entry more: so
+-- the sealed byte is n, the open ones 0, the open memory absent, n stands at 5 of the sealed one, and there is room for one entry more: so
 -- two of them differ in their logs, which are not empty
-start : ℕ → Start
+start : ℕ → ℕ → Start
 unfolding table
-start n =
+start n budget =
     record {
       table = table;
-      state = 1 ∷ n ∷ 1 ∷ 0 ∷ 0 ∷ 0 ∷ 3 ∷ 1 ∷ [];
+      state = 1 ∷ n ∷ 1 ∷ 0 ∷ 0 ∷ 0 ∷ 3 ∷ 1 ∷ 1 ∷ 0 ∷ [];
       log = 0 ∷ 8 ∷ 5 ∷ n ∷ 0 ∷ 0 ∷ 0 ∷ 0 ∷ [];
       count = 1;
-      next = 0;
-      budget = 9;
+      next = 255;
+      budget = budget;
     }
 
 -- the sealed byte is moved to the open one
@@ -68,13 +70,16 @@ bad : check [] ≡ Refused 1 0
 unfolding check
 bad = refl
 
+answers-apart : {a : Answer} → a ≡ Accepted → a ≡ Refused 18 1 → ⊥
+answers-apart p q = impossible (cc)
+
 code-apart : Refused 1 0 ≡ Refused 4 0 → ⊥
 code-apart e = let same : _≡_ {A = ℕ} 1 4 = cc in absurd (omega arith)
 
--- two starts that differ in what is sealed alone
-agreeing : Agreeing (start 3) (start 9)
+-- two starts that differ in what is sealed alone, at any budget
+agreeing : (budget : ℕ) → Agreeing (start 3 budget) (start 9 budget)
 unfolding start table context content result entries
-agreeing =
+agreeing budget =
     record {
       accepted = refl;
       accepted′ = refl;
@@ -86,13 +91,15 @@ agreeing =
       values = values;
     }
   where
-    values : (x : ℕ) → x < 4 → context table .sealed x ≡ false
-        → content (logOf (start 3)) (inState (start 3 .state) (context table .type x) x) ≡ content (logOf (start 9)) (inState (start 9 .state) (context table .type x) x)
+    values : (x : ℕ) → x < 5 → context table .sealed x ≡ false
+        → content (logOf (start 3 budget)) (inState (start 3 budget .state) (context table .type x) x)
+        ≡ content (logOf (start 9 budget)) (inState (start 9 budget .state) (context table .type x) x)
     values zero h o = absurd (true≢false o)
     values (suc zero) h o = refl
     values (suc (suc zero)) h o = refl
     values (suc (suc (suc zero))) h o = absurd (true≢false o)
-    values (suc (suc (suc (suc x)))) h o = absurd (omega arith)
+    values (suc (suc (suc (suc zero)))) h o = refl
+    values (suc (suc (suc (suc (suc x))))) h o = absurd (omega arith)
 
 -- ------------------------------------------------------------------------------------------------
 -- Demand 1
@@ -160,6 +167,14 @@ pub fault-accepted : Demand1 (ofFunctions accepting sealCheck result) → ⊥
 unfolding accepting check
 fault-accepted d = let there : accepting [] ≡ Refused 1 0 = met _ _ _ d [] 1 0 refl in impossible (cc)
 
+pub seal-fault-accepted : Demand1 (ofFunctions check accepting result) → ⊥
+unfolding accepting sealCheck
+seal-fault-accepted d = let there : accepting [] ≡ Refused 1 0 = seal-met _ _ _ d [] 1 0 refl in impossible (cc)
+
+pub start-accepted : Demand1 (ofFunctions check sealCheck (λ s. atRefusal (withEnding Endings.Done) (result s))) → ⊥
+unfolding atRefusal withEnding result none runRules
+start-accepted d = let there : Endings.Done ≡ Endings.Refused 1 0 = run-met _ _ _ d none 1 0 refl in impossible (cc)
+
 -- and no other: a good table refused
 pub good-refused : Demand1 (ofFunctions refusingAll sealCheck result) → ⊥
 unfolding refusingAll
@@ -199,10 +214,39 @@ pub seal-only-complete : Demand2 (ofFunctions check check result) → ⊥
 unfolding check sealCheck leaky
 seal-only-complete d = let yes-there : sealCheck leaky ≡ Accepted = seal-iff leaky .1 (d .seal leaky Accepted refl .0 refl) in impossible (cc)
 
--- "Every variable then still has its declared type.": types kept for open variables only. The sealed byte is left as 300.
-pub open-types-only : TypesKept (ofFunctions check sealCheck (λ s. withState (set (s .state) 1 300) (result s))) → ⊥
-unfolding withState start table result context
-open-types-only d = let fits = d (start 3) _ refl refl 0 (omega arith) .sound in absurd (omega (fits, arith))
+-- "Every variable then still has its declared type.": a program leaves one variable otherwise
+-- the sealed byte as 300: types kept for open variables only
+pub open-types-only : TypesKept (ofFunctions check sealCheck (leaving 0 1 300)) → ⊥
+unfolding leaving withState start table result context
+open-types-only d = let fits = d (start 3 9) _ refl refl 0 (omega arith) .sound in absurd (omega (fits, arith))
+
+-- the open memory as a word: types kept for words only
+pub word-types-only : TypesKept (ofFunctions check sealCheck (leaving 2 1 0)) → ⊥
+unfolding leaving withState start table result context
+word-types-only d = let type = d (start 3 9) _ refl refl 2 (omega arith) .type in impossible (cc)
+
+-- the last variable as 300
+pub last-type-free : TypesKept (ofFunctions check sealCheck (leaving 4 1 300)) → ⊥
+unfolding leaving withState start table result context
+last-type-free d = let fits = d (start 3 9) _ refl refl 4 (omega arith) .sound in absurd (omega (fits, arith))
+
+-- the sealed memory from an entry that isn't there
+pub head-free : TypesKept (ofFunctions check sealCheck (leaving 3 3 9)) → ⊥
+unfolding leaving withState start table result context entries
+head-free d = let most = d (start 3 9) _ refl refl 3 (omega arith) .head .link .most in absurd (omega (most, arith))
+
+-- and demand 2 has that clause
+pub types-in-demand-2 : Demand2 (ofFunctions check sealCheck (leaving 0 1 300)) → ⊥
+types-in-demand-2 d = open-types-only (d .types)
+
+-- what is left can be lent again: a pair that no start may have, where the run is done and where it is stopped
+pub done-not-again : StartsAgain (ofFunctions check sealCheck (leaving 1 2 5)) → ⊥
+unfolding leaving withState start table result runRules nextStart
+done-not-again d = answers-apart (d (start 3 9) _ refl refl 9) refl
+
+pub stop-not-again : StartsAgain (ofFunctions check sealCheck (leaving 1 2 5)) → ⊥
+unfolding leaving withState start table result runRules nextStart
+stop-not-again d = answers-apart (d (start 3 0) _ refl refl 9) refl
 
 -- ------------------------------------------------------------------------------------------------
 -- Demand 3: "Both runs give the same answer, place, tick count, next address and log count, and the same final value of each open
@@ -210,9 +254,9 @@ open-types-only d = let fits = d (start 3) _ refl refl 0 (omega arith) .sound in
 
 -- two runs that tell 3 and 9
 told : (tell : ℕ → Result → Result) → Demand3 (ofFunctions check sealCheck (telling tell))
-    → SameResult table (tell 3 (result (start 3))) (tell 9 (result (start 9)))
+    → SameResult table (tell 3 (result (start 3 9))) (tell 9 (result (start 9 9)))
 unfolding telling start
-told tell d = d (start 3) (start 9) _ _ (sym clean) agreeing refl refl
+told tell d = d (start 3 9) (start 9 9) _ _ (sym clean) (agreeing 9) refl refl
 
 apart : _≡_ {A = ℕ} 3 9 → ⊥
 apart e = absurd (omega arith)
@@ -220,6 +264,12 @@ apart e = absurd (omega arith)
 pub through-answer : Demand3 (ofFunctions check sealCheck (telling (λ n. withEnding (Endings.Stopped n 0)))) → ⊥
 unfolding withEnding
 through-answer d = let same = told _ d .ending in apart (cc)
+
+-- done or stopped
+pub through-done :
+    Demand3 (ofFunctions check sealCheck (telling (λ n. withEnding (if eqb n 3 then Endings.Done else Endings.Stopped 32 0)))) → ⊥
+unfolding withEnding
+through-done d = let same : Endings.Done ≡ Endings.Stopped 32 0 = told _ d .ending in impossible (cc)
 
 pub through-place : Demand3 (ofFunctions check sealCheck (telling (λ n. withEnding (Endings.Stopped 32 n)))) → ⊥
 unfolding withEnding
@@ -244,12 +294,39 @@ through-word d =
     let same : Content.word 8 3 ≡ Content.word 8 9 = told _ d .values 1 (omega arith) refl in
     apart (cc)
 
--- an open memory's stores: one more entry, whose byte it is
-pub through-memory :
-    Demand3 (ofFunctions check sealCheck (telling (λ n r. withCount 2 (withState (set (set (r .state) 4 3) 5 2) (withLog (0 ∷ 8 ∷ 5 ∷ n ∷ 0 ∷ 8 ∷ 0 ∷ n ∷ []) r))))) → ⊥
-unfolding withCount withState withLog start table result context content entries
-through-memory d =
-    let same : Content.memory 8 (record { address = 0; byte = 3 } ∷ []) ≡ Content.memory 8 (record { address = 0; byte = 9 } ∷ []) =
-    told _ d .values 2 (omega arith) refl in
-    let cells : _≡_ {A = Cell} (record { address = 0; byte = 3 }) (record { address = 0; byte = 9 }) = cc in
+-- the last variable
+pub through-last : Demand3 (ofFunctions check sealCheck (telling (λ n r. withState (set (r .state) 9 n) r))) → ⊥
+unfolding withState start table result context content
+through-last d =
+    let same : Content.word 8 3 ≡ Content.word 8 9 = told _ d .values 4 (omega arith) refl in
+    apart (cc)
+
+-- known or unknown
+pub through-unknown : Demand3 (ofFunctions check sealCheck (telling (λ n r. withState (set (r .state) 2 (if eqb n 3 then 1 else 2)) r))) → ⊥
+unfolding withState start table result context content
+through-unknown d = let same = told _ d .values 1 (omega arith) refl in impossible (cc)
+
+-- an open memory's stores: two more entries, of which one's byte it is
+cell-apart : (a b : List Cell) → _≡_ {A = List Cell} (record { address = 1; byte = 3 } ∷ a) (record { address = 1; byte = 9 } ∷ b) → ⊥
+cell-apart a b e =
+    let cells : _≡_ {A = Cell} (record { address = 1; byte = 3 }) (record { address = 1; byte = 9 }) = cc in
     apart (ap (λ (c : Cell). c .byte) cells)
+
+pub through-memory : Demand3 (ofFunctions check sealCheck (telling (λ n. storing (0 ∷ 8 ∷ 0 ∷ 7 ∷ 2 ∷ 8 ∷ 1 ∷ n ∷ [])))) → ⊥
+unfolding storing withCount withState withLog start table result context content entries
+through-memory d =
+    let same :
+    Content.memory 8 (record { address = 1; byte = 3 } ∷ record { address = 0; byte = 7 } ∷ [])
+    ≡ Content.memory 8 (record { address = 1; byte = 9 } ∷ record { address = 0; byte = 7 } ∷ []) =
+    told _ d .values 2 (omega arith) refl in
+    cell-apart (record { address = 0; byte = 7 } ∷ []) (record { address = 0; byte = 7 } ∷ []) (cc)
+
+-- in the older one
+pub through-older-store : Demand3 (ofFunctions check sealCheck (telling (λ n. storing (0 ∷ 8 ∷ 1 ∷ n ∷ 2 ∷ 8 ∷ 0 ∷ 7 ∷ [])))) → ⊥
+unfolding storing withCount withState withLog start table result context content entries
+through-older-store d =
+    let same :
+    Content.memory 8 (record { address = 0; byte = 7 } ∷ record { address = 1; byte = 3 } ∷ [])
+    ≡ Content.memory 8 (record { address = 0; byte = 7 } ∷ record { address = 1; byte = 9 } ∷ []) =
+    told _ d .values 2 (omega arith) refl in
+    cell-apart [] [] (cc)

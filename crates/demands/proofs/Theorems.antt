@@ -1,5 +1,5 @@
--- The three demands hold of every library that gives what the rules give, and of no other: the first two leave one answer to each
--- table and one result to each start. Assumes nothing.
+-- The three demands hold of every library that gives what the rules give to whatever is lent, and of no other: the first two leave one
+-- answer to each table and one result to each start. Assumes nothing.
 use mathlib.Core.Path.{_≡_, refl, sym, ap, subst, _∙_}
 use mathlib.Core.List.{List, _++_}
 use mathlib.Core.Logic.{_↔_}
@@ -93,14 +93,20 @@ module _ (l : Library) (g : Gives l) where
 -- ------------------------------------------------------------------------------------------------
 -- And of no other: no second answer fits
 
-pub determined : (l : Library) → Demand1 l → Demand2 l → Gives l
+pub determined : (l : Library) → Demand1 l → Demand2 l → Gives l × Takes l
 unfolding check sealCheck
-determined l one two =
-    record {
-      check = λ {s} {r} given. verdict s r given;
-      seal = λ {s} {r} given. sealed s r given;
-      run = λ {s} {r} given. ends s r given (refusal (runRules s)) refl;
-    }
+determined l one two = (
+  record {
+    check = λ {s} {r} given. verdict s r given;
+    seal = λ {s} {r} given. sealed s r given;
+    run = λ {s} {r} given. ends s r given (refusal (runRules s)) refl;
+  },
+  record {
+    check = λ s. let (r, given) = one .checks s in subst (l .check s) (verdict s r given) given;
+    seal = λ s. let (r, given) = one .seals s in subst (l .seal s) (sealed s r given) given;
+    run = λ s. let (r, given) = one .runs s in subst (l .run s) (ends s r given (refusal (runRules s)) refl) given;
+  },
+)
   where
     verdict : (s : List ℕ) (r : Answer) → l .check s r → r ≡ check s
     verdict s Accepted given = sym (check-iff s .1 (two .verdict s Accepted given .0 refl))

@@ -72,6 +72,10 @@ TypesKept l =
     (s : Start) (r : Result) → l .run s r → Accepts s → (x : ℕ) → x < header (s .table) .variables
     → Has (entries (r .log) (r .count)) (inState (r .state) (context (s .table) .type x) x) (context (s .table) .type x)
 
+-- what is left can be lent again, with any budget: an accepted start ends as an accepted start
+abbrev pub StartsAgain : Library → Type 0
+StartsAgain l = (s : Start) (r : Result) → l .run s r → Accepts s → (budget : ℕ) → Accepts (nextStart s r budget)
+
 pub record Demand2 (l : Library) : Type 0 where
   -- "The verdict is yes exactly when the typing rules of the BIL specification, narrowed as in document 01, hold;"
   pub verdict : (s : List ℕ) (r : Answer) → l .check s r → (r ≡ Accepted) ↔ RulesHold s
@@ -81,8 +85,7 @@ pub record Demand2 (l : Library) : Type 0 where
   -- evaluation, at every budget." The start has the budget; `ran` is what the rules' evaluation gives.
   pub run : (s : Start) (r : Result) → l .run s r → Accepts s → r ≡ ran s
   pub types : TypesKept l
-  -- what is left can be lent again, with any budget: an accepted start ends as an accepted start
-  pub again : (s : Start) (r : Result) → l .run s r → Accepts s → (budget : ℕ) → Accepts (nextStart s r budget)
+  pub again : StartsAgain l
 
 -- ------------------------------------------------------------------------------------------------
 -- Demand 3

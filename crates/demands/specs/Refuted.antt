@@ -1,9 +1,9 @@
 -- Programs that a demand shuts out, one for each thing that it names. Each does as the rules say in all else. proofs/Counterexamples.antt
 -- proves of each that the demand, by itself, does not hold of it. Assumes nothing.
 use mathlib.Core.Path.{_≡_}
-use mathlib.Core.List.{List, reverse}
-use Prim.Native.Nat.{ℕ, suc}
-use lib.ListN.{getD}
+use mathlib.Core.List.{List, _∷_, reverse}
+use Prim.Native.Nat.{ℕ, suc, _+_, _*_}
+use lib.ListN.{getD, set}
 use Rattle.base.specs.declared.Answer.{Answer}
 use Rattle.base.specs.declared.Answer.the-variants.{Accepted, Refused}
 use Rattle.base.specs.Refusals.{Rule, refusal}
@@ -77,6 +77,11 @@ withLog l r = record { ending = r .ending; ticks = r .ticks; count = r .count; n
 -- ------------------------------------------------------------------------------------------------
 -- Demands 2 and 3
 
+-- a run that leaves variable x with another pair
+unfoldable pub leaving : ℕ → ℕ → ℕ → Start → Result
+unfolding withState result
+leaving x kind n s = withState (set (set (s .state) (2 * x) kind) (2 * x + 1) n) (result s)
+
 -- the word that a start has in variable 0, which is sealed there
 abbrev pub secret : Start → ℕ
 secret s = getD (s .state) 1 0
@@ -85,3 +90,8 @@ secret s = getD (s .state) 1 0
 unfoldable pub telling : (ℕ → Result → Result) → Start → Result
 unfolding result
 telling tell s = tell (secret s) (result s)
+
+-- two more entries, of which variable 2 is the chain that starts at the newest
+unfoldable pub storing : List ℕ → Result → Result
+unfolding withCount withState withLog
+storing numbers r = withCount 3 (withState (set (set (r .state) 4 3) 5 3) (withLog (0 ∷ 8 ∷ 5 ∷ 0 ∷ numbers) r))

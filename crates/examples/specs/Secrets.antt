@@ -2,7 +2,7 @@
 -- equal logs or of empty ones, would leave a pair out. Assumes nothing.
 use mathlib.Core.Path.{_≡_, refl, sym}
 use mathlib.Core.Bool.{false, true≢false}
-use mathlib.Core.List.{List, [], _∷_}
+use mathlib.Core.List.{List, [], _∷_, _++_}
 use Prim.Native.Nat.{ℕ, zero, suc, _<_}
 use native.Mathlib.Omega.{arith}
 use Rattle.base.specs.declared.Answer.the-variants.{Accepted}
@@ -10,7 +10,7 @@ use Rattle.table.specs.Decode.{context}
 use Rattle.table.proofs.Assembler.{assembled, immediate, memory, sealed, var, word, load, store, move}
 use Rattle.sealing.specs.Verdict.{sealCheck}
 use Rattle.evaluation.specs.State.{inState}
-use Rattle.memory.specs.Log.{entries}
+use Rattle.memory.specs.Log.{Log, entries}
 use Rattle.running.specs.Start.{Start, logOf}
 use Rattle.running.specs.Result.{result}
 use Rattle.secrecy.specs.Agreement.{Agree, Agreeing, SameResult, content}
@@ -40,13 +40,13 @@ clean = refl
 
 -- two states agree in the value of each open variable where they agree in the one that there is
 one-open :
-    (σ τ : List ℕ) → content [] (inState σ (context table .type 2) 2) ≡ content [] (inState τ (context table .type 2) 2)
-    → Agree (context table) 3 [] [] σ τ
+    (L : Log) (σ τ : List ℕ) → content L (inState σ (context table .type 2) 2) ≡ content L (inState τ (context table .type 2) 2)
+    → Agree (context table) 3 L L σ τ
 unfolding table context
-one-open σ τ e zero h o = absurd (true≢false o)
-one-open σ τ e (suc zero) h o = absurd (true≢false o)
-one-open σ τ e (suc (suc zero)) h o = e
-one-open σ τ e (suc (suc (suc x))) h o = absurd (omega arith)
+one-open L σ τ e zero h o = absurd (true≢false o)
+one-open L σ τ e (suc zero) h o = absurd (true≢false o)
+one-open L σ τ e (suc (suc zero)) h o = e
+one-open L σ τ e (suc (suc (suc x))) h o = absurd (omega arith)
 
 pub agreeing : Agreeing (start 3 0 9) (start 9 0 9)
 unfolding start table context content result
@@ -59,7 +59,7 @@ agreeing =
       next = refl;
       room = refl;
       count = refl;
-      values = one-open (start 3 0 9 .state) (start 9 0 9 .state) refl;
+      values = one-open [] (start 3 0 9 .state) (start 9 0 9 .state) refl;
     }
 
 -- so demand 3 speaks of them
@@ -71,6 +71,30 @@ same = demand-3 rules rules-give (start 3 0 9) (start 9 0 9) _ _ (sym clean) agr
 pub kept : (result (start 3 0 9) .log ≡ 0 ∷ 8 ∷ 5 ∷ 3 ∷ []) × (result (start 9 0 9) .log ≡ 0 ∷ 8 ∷ 5 ∷ 9 ∷ [])
 unfolding result start
 kept = (refl, refl)
+
+-- what is sealed may be of another kind too: in one start the sealed memory has a store and the sealed byte is absent, in the other the memory
+-- is absent and the byte is a word
+unfoldable pub kinds : List ℕ → Start
+unfolding table
+kinds sealed = record { table = table; state = sealed ++ (0 ∷ 0 ∷ []); log = 0 ∷ 8 ∷ 1 ∷ 7 ∷ 0 ∷ 0 ∷ 0 ∷ 0 ∷ []; count = 1; next = 255; budget = 9 }
+
+pub kinds-agree : Agreeing (kinds (3 ∷ 1 ∷ 0 ∷ 0 ∷ [])) (kinds (0 ∷ 0 ∷ 1 ∷ 9 ∷ []))
+unfolding kinds table context content result entries
+kinds-agree =
+    record {
+      accepted = refl;
+      accepted′ = refl;
+      table = refl;
+      budget = refl;
+      next = refl;
+      room = refl;
+      count = refl;
+      values = one-open (entries (0 ∷ 8 ∷ 1 ∷ 7 ∷ []) 1) (3 ∷ 1 ∷ 0 ∷ 0 ∷ 0 ∷ 0 ∷ []) (0 ∷ 0 ∷ 1 ∷ 9 ∷ 0 ∷ 0 ∷ []) refl;
+    }
+
+pub kinds-same : SameResult table (result (kinds (3 ∷ 1 ∷ 0 ∷ 0 ∷ []))) (result (kinds (0 ∷ 0 ∷ 1 ∷ 9 ∷ [])))
+unfolding kinds
+kinds-same = demand-3 rules rules-give (kinds (3 ∷ 1 ∷ 0 ∷ 0 ∷ [])) (kinds (0 ∷ 0 ∷ 1 ∷ 9 ∷ [])) _ _ (sym clean) kinds-agree refl refl
 
 -- ------------------------------------------------------------------------------------------------
 -- "A memory's value is its stores, newest first": other log buffers and other heads, with entries in both logs, and a sealed memory that
@@ -164,7 +188,7 @@ lost-agree =
       next = refl;
       room = refl;
       count = refl;
-      values = one-open (start 3 0 1 .state) (start 3 2 1 .state) refl;
+      values = one-open [] (start 3 0 1 .state) (start 3 2 1 .state) refl;
     }
 
 pub lost-same : SameResult table (result (start 3 0 1)) (result (start 3 2 1))

@@ -19,12 +19,35 @@ use Rattle.runner.specs.declared.Outcome.{Outcome}
 use Rattle.runner.specs.Given.{Gives}
 use Rattle.demands.specs.Demands.{Library, answerOf, Demand1, Demand2, Demand3}
 use Rattle.demands.proofs.Theorems as Demands
-use Rattle.demands.proofs.NumberLaws.{check-told, seal-told, run-told}
 use Rattle.bil.specs.RunCall.{Left, left, numbers}
 use Rattle.bil.specs.RunCall as Outside
-use Rattle.promises.specs.Promises.{call, Parameters, resultOf, code, fromAccepted}
+use Rattle.promises.specs.Promises.{Call, call, AsksNothing, Parameters, resultOf, CheckCall, SealCall, EntryCall, AcceptedCall, code, fromAccepted}
 use Rattle.promises.specs.Promises.{CheckCode, CheckPlace, SealCode, SealPlace, RunCall, Answered, answered, told, Returned, returned, inC}
-use Rattle.promises.specs.Promises.{Room, NothingAsked}
+use Rattle.promises.specs.Promises.{Plain, NothingAsked}
+
+-- ------------------------------------------------------------------------------------------------
+-- Nothing is asked
+
+pub nothing-asked : NothingAsked
+nothing-asked =
+    record {
+      bil-check-code = λ κ a. tt;
+      bil-check-place = λ κ a. tt;
+      bil-seal-code = λ κ a. tt;
+      bil-seal-place = λ κ a. tt;
+      bil-word-kind = λ κ a. tt;
+      bil-word-value = λ κ a. tt;
+      bil-run = λ κ a. tt;
+      check = λ κ a. tt;
+      seal-check = λ κ a. tt;
+      run = λ κ a. tt;
+    }
+
+-- a call of a function that asks nothing
+free :
+    {L A R S X Y : Type 0} {Pre : L → A → Type 0} {Post : L → A → R → S → Type 0} {taken : A → X} {given : R → S → Y} → AsksNothing Pre → (κ : L) (a : A)
+    (r : R) (exit : S) → Post κ a r exit → Call Pre Post taken given (taken a) (given r exit)
+free asks κ a r exit kept = call κ a r exit (asks κ a) kept
 
 -- ------------------------------------------------------------------------------------------------
 -- The code's entries
@@ -67,10 +90,28 @@ lend s state log = (ref (s .table), (ref state, (ref log, (s .count, (s .next, (
 code-takes : Demands.Takes code
 code-takes =
     record {
-      check = λ s. call ([], tt) (ref s, tt) (check s) (ref s, tt) tt refl;
-      seal = λ s. call ([], tt) (ref s, tt) (sealCheck s) (ref s, tt) tt refl;
-      run = λ s. let x = result s in call ([], ([], ([], tt))) (lend s (s .state) (s .log)) (outcomeOf x) (lend s (x .state) (x .log)) tt (gives x);
+      check = λ s. free (nothing-asked .check) ([], tt) (ref s, tt) (check s) (ref s, tt) refl;
+      seal = λ s. free (nothing-asked .seal-check) ([], tt) (ref s, tt) (sealCheck s) (ref s, tt) refl;
+      run = λ s.
+          let x = result s in
+          free (nothing-asked .run) ([], ([], ([], tt))) (lend s (s .state) (s .log)) (outcomeOf x) (lend s (x .state) (x .log)) (gives x);
     }
+
+-- every call is in the library
+pub every-check : {s : List ℕ} {r : Answer} → CheckCall s r → code .check s r
+every-check c = c
+
+pub every-seal : {s : List ℕ} {r : Answer} → SealCall s r → code .seal s r
+every-seal c = c
+
+pub every-run : {s : Start} {r : Result} → EntryCall s r → code .run s r
+every-run c = c
+
+pub every-accepted : {s : Start} {r : Result} → AcceptedCall s r → fromAccepted .run s r
+every-accepted c = c
+
+pub accepted-checks : (s : List ℕ) → fromAccepted .check s (check s) × fromAccepted .seal s (sealCheck s)
+accepted-checks s = (code-takes .check s, code-takes .seal s)
 
 -- and a run of an accepted start can be asked for
 pub accepted-takes : (s : Start) → Accepts s → fromAccepted .run s (ran s)
@@ -109,13 +150,13 @@ module _ (s : Start) (o : List ℕ) where
 
 -- the five numbers tell the result
 told-is : (s : Start) → told (left 1 (result s .state) (result s .log) (numbers (result s))) ≡ result s
-told-is s = rw (run-told s) refl
+told-is s = rw (Demands.decided .endings s) refl
 
 answered-check : {s : List ℕ} {r : Answer} → Answered CheckCode CheckPlace s r → r ≡ check s
-answered-check {s} (answered code place c p) = ap₂ answerOf (check-code c) (check-place p) ∙ check-told s
+answered-check {s} (answered code place c p) = ap₂ answerOf (check-code c) (check-place p) ∙ Demands.decided .answers s
 
 answered-seal : {s : List ℕ} {r : Answer} → Answered SealCode SealPlace s r → r ≡ sealCheck s
-answered-seal {s} (answered code place c p) = ap₂ answerOf (seal-code c) (seal-place p) ∙ seal-told s
+answered-seal {s} (answered code place c p) = ap₂ answerOf (seal-code c) (seal-place p) ∙ Demands.decided .seal-answers s
 
 returned-run : {s : Start} {r : Result} → Returned s r → r ≡ result s
 returned-run {s} (returned out l h c) = ap told (with-room s out c h) ∙ told-is s
@@ -126,20 +167,21 @@ c-gives = record { check = answered-check; seal = answered-seal; run = returned-
 run-call : (s : Start) (o : List ℕ) → RunCall (s, o) (Outside.call s o)
 run-call s o =
     let l = Outside.call s o in
-    call ([], ([], ([], ([], tt)))) (ref (s .table), (ref (s .state), (ref (s .log), (s .count, (s .next, (s .budget, (ref o, tt)))))))
-    (l .answer) (ref (s .table), (ref (l .state), (ref (l .log), (s .count, (s .next, (s .budget, (ref (l .out), tt))))))) tt refl
+    free (nothing-asked .bil-run) ([], ([], ([], ([], tt)))) (ref (s .table), (ref (s .state), (ref (s .log), (s .count, (s .next, (s .budget, (ref o, tt)))))))
+    (l .answer) (ref (s .table), (ref (l .state), (ref (l .log), (s .count, (s .next, (s .budget, (ref (l .out), tt))))))) refl
 
 c-takes : Demands.Takes inC
 c-takes =
     record {
       check = λ s.
-          subst (Answered CheckCode CheckPlace s) (check-told s)
-          (answered (codeOf (check s)) (placeOf (check s)) (call ([], tt) (ref s, tt) (codeOf (check s)) (ref s, tt) tt refl)
-          (call ([], tt) (ref s, tt) (placeOf (check s)) (ref s, tt) tt refl));
+          subst (Answered CheckCode CheckPlace s) (Demands.decided .answers s)
+          (answered (codeOf (check s)) (placeOf (check s)) (free (nothing-asked .bil-check-code) ([], tt) (ref s, tt) (codeOf (check s)) (ref s, tt) refl)
+          (free (nothing-asked .bil-check-place) ([], tt) (ref s, tt) (placeOf (check s)) (ref s, tt) refl));
       seal = λ s.
-          subst (Answered SealCode SealPlace s) (seal-told s)
-          (answered (codeOf (sealCheck s)) (placeOf (sealCheck s)) (call ([], tt) (ref s, tt) (codeOf (sealCheck s)) (ref s, tt) tt refl)
-          (call ([], tt) (ref s, tt) (placeOf (sealCheck s)) (ref s, tt) tt refl));
+          subst (Answered SealCode SealPlace s) (Demands.decided .seal-answers s)
+          (answered (codeOf (sealCheck s)) (placeOf (sealCheck s))
+          (free (nothing-asked .bil-seal-code) ([], tt) (ref s, tt) (codeOf (sealCheck s)) (ref s, tt) refl)
+          (free (nothing-asked .bil-seal-place) ([], tt) (ref s, tt) (placeOf (sealCheck s)) (ref s, tt) refl));
       run = λ s. subst (Returned s) (told-is s) (returned (0 ∷ 0 ∷ 0 ∷ 0 ∷ 0 ∷ []) _ refl (run-call s (0 ∷ 0 ∷ 0 ∷ 0 ∷ 0 ∷ [])));
     }
 
@@ -170,24 +212,30 @@ c-demand-2 = Demands.demand-2 inC c-gives
 pub c-demand-3 : Demand3 inC
 c-demand-3 = Demands.demand-3 inC c-gives
 
-pub room : Room
-room =
-    record {
-      there = λ s out l c h. (ap (λ (x : Left). x .answer) (with-room s out c h), ap (λ (x : Left). length (x .out)) (with-room s out c h));
-      missing = λ s out l. without s out;
-    }
+-- every call is in the library
+pub every-c-check : {s : List ℕ} {c p : ℕ} → CheckCode s c → CheckPlace s p → inC .check s (answerOf c p)
+every-c-check = answered _ _
 
-pub nothing-asked : NothingAsked
-nothing-asked =
+pub every-c-seal : {s : List ℕ} {c p : ℕ} → SealCode s c → SealPlace s p → inC .seal s (answerOf c p)
+every-c-seal = answered _ _
+
+pub every-c-run : {s : Start} {out : List ℕ} {l : Left} → length out ≡ 5 → RunCall (s, out) l → inC .run s (told l)
+every-c-run = returned _ _
+
+-- what numbers tell has these numbers
+abbrev SameNumbers : ℕ → ℕ → Type 0
+SameNumbers c p = (c ≡ codeOf (answerOf c p)) × (p ≡ placeOf (answerOf c p))
+
+plain-numbers : (a : Answer) {c p : ℕ} → answerOf (codeOf a) (placeOf a) ≡ a → c ≡ codeOf a → p ≡ placeOf a → SameNumbers c p
+plain-numbers a e c p = rw (c, p) (sym (ap codeOf e), sym (ap placeOf e))
+
+pub plain : Plain
+plain =
     record {
-      bil-check-code = λ κ a. tt;
-      bil-check-place = λ κ a. tt;
-      bil-seal-code = λ κ a. tt;
-      bil-seal-place = λ κ a. tt;
-      bil-word-kind = λ κ a. tt;
-      bil-word-value = λ κ a. tt;
-      bil-run = λ κ a. tt;
-      check = λ κ a. tt;
-      seal-check = λ κ a. tt;
-      run = λ κ a. tt;
+      check = λ s c p code place. plain-numbers (check s) (Demands.decided .answers s) (check-code code) (check-place place);
+      seal = λ s c p code place. plain-numbers (sealCheck s) (Demands.decided .seal-answers s) (seal-code code) (seal-place place);
+      run = λ s out l c h.
+          let e = with-room s out c h in
+          (ap (λ (x : Left). x .answer) e, ap (λ (x : Left). x .out) e ∙ ap numbers (sym (ap told e ∙ told-is s)));
+      no-room = λ s out l. without s out;
     }

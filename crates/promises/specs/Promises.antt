@@ -7,12 +7,13 @@ use Prim.Native.Nat.{ℕ}
 use lib.ListN.{length, getD}
 use denote.Ref.{RefT, now}
 use Rattle.base.specs.declared.Answer.{Answer}
+use Rattle.base.specs.Refusals.{codeOf, placeOf}
 use Rattle.running.specs.Start.{Start}
 use Rattle.running.specs.Result.{Result}
 use Rattle.starts.specs.Lent.{lent}
 use Rattle.runner.specs.declared.Outcome.{Outcome}
 use Rattle.demands.specs.Demands.{Library, answerOf, endingOf}
-use Rattle.bil.specs.RunCall.{Left, left}
+use Rattle.bil.specs.RunCall.{Left, left, numbers}
 use Rattle.verdict.proofs as verdict
 use Rattle.runner.proofs as runner
 use Rattle.bil.proofs as bil
@@ -37,23 +38,25 @@ abbrev pub resultOf : Outcome → Parameters → Result
 resultOf r exit =
     record { ending = r .ending; ticks = r .ticks; count = r .count; next = r .next; state = now (exit .1 .0); log = now (exit .1 .1 .0) }
 
--- `verdict::check`, `verdict::seal_check` and `runner::entry::run`
-abbrev pub code : Library
-code =
-    record {
-      check = Call verdict.check.Reads.Pre verdict.check.Reads.Post (λ a. now (a .0)) (λ r exit. r);
-      seal = Call verdict.seal_check.Reads.Pre verdict.seal_check.Reads.Post (λ a. now (a .0)) (λ r exit. r);
-      run = Call runner.entry.run.Reads.Pre runner.entry.run.Reads.Post startOf resultOf;
-    }
+-- `verdict::check`, `verdict::seal_check`, `runner::entry::run` and `runner::accepted::run_accepted` took this and gave that
+abbrev pub CheckCall : List ℕ → Answer → Type 0
+CheckCall = Call verdict.check.Reads.Pre verdict.check.Reads.Post (λ a. now (a .0)) (λ r exit. r)
 
--- the same with `runner::accepted::run_accepted`, which asks for an accepted start: demands 2 and 3 speak of no other
+abbrev pub SealCall : List ℕ → Answer → Type 0
+SealCall = Call verdict.seal_check.Reads.Pre verdict.seal_check.Reads.Post (λ a. now (a .0)) (λ r exit. r)
+
+abbrev pub EntryCall : Start → Result → Type 0
+EntryCall = Call runner.entry.run.Reads.Pre runner.entry.run.Reads.Post startOf resultOf
+
+abbrev pub AcceptedCall : Start → Result → Type 0
+AcceptedCall = Call runner.accepted.run_accepted.Reads.Pre runner.accepted.run_accepted.Reads.Post startOf resultOf
+
+abbrev pub code : Library
+code = record { check = CheckCall; seal = SealCall; run = EntryCall }
+
+-- the last asks for an accepted start: demands 2 and 3 speak of no other
 abbrev pub fromAccepted : Library
-fromAccepted =
-    record {
-      check = code .check;
-      seal = code .seal;
-      run = Call runner.accepted.run_accepted.Reads.Pre runner.accepted.run_accepted.Reads.Post startOf resultOf;
-    }
+fromAccepted = record { check = CheckCall; seal = SealCall; run = AcceptedCall }
 
 -- ------------------------------------------------------------------------------------------------
 -- What C calls
@@ -97,10 +100,13 @@ pub data Returned (s : Start) : Result → Type 0 where
 abbrev pub inC : Library
 inC = record { check = Answered CheckCode CheckPlace; seal = Answered SealCode SealPlace; run = Returned }
 
--- beside the demands: "1, and the five numbers in out; 0 where out_size is not 5: then nothing is written anywhere" (bil.h)
-pub record Room : Type 0 where
-  pub there : (s : Start) (out : List ℕ) (l : Left) → RunCall (s, out) l → length out ≡ 5 → (l .answer ≡ 1) × (length (l .out) ≡ 5)
-  pub missing : (s : Start) (out : List ℕ) (l : Left) → RunCall (s, out) l → (length out ≡ 5 → ⊥) → l ≡ left 0 (s .state) (s .log) out
+-- Beside the demands: the numbers say no more than what they tell, so that a place is 0 where the code is; and "1, and the five numbers in
+-- out; 0 where out_size is not 5: then nothing is written anywhere" (bil.h).
+pub record Plain : Type 0 where
+  pub check : (s : List ℕ) (c p : ℕ) → CheckCode s c → CheckPlace s p → (c ≡ codeOf (answerOf c p)) × (p ≡ placeOf (answerOf c p))
+  pub seal : (s : List ℕ) (c p : ℕ) → SealCode s c → SealPlace s p → (c ≡ codeOf (answerOf c p)) × (p ≡ placeOf (answerOf c p))
+  pub run : (s : Start) (out : List ℕ) (l : Left) → RunCall (s, out) l → length out ≡ 5 → (l .answer ≡ 1) × (l .out ≡ numbers (told l))
+  pub no-room : (s : Start) (out : List ℕ) (l : Left) → RunCall (s, out) l → (length out ≡ 5 → ⊥) → l ≡ left 0 (s .state) (s .log) out
 
 -- ------------------------------------------------------------------------------------------------
 -- "Each entry takes every table, state and log that can be lent to it": no contract asks anything
