@@ -1,9 +1,8 @@
 -- Cases that can't be, and what a test made of tests says of its parts. Assumes nothing.
 use mathlib.Core.Path.{◌≡◌, refl, sym, ap, ◌∙◌}
-use mathlib.Core.Bool.{Bool, true, false, not, ◌&&◌, ◌||◌, and-eq-true_iff}
+use mathlib.Core.Bool.{Bool, true, false, ◌&&◌, ◌||◌, and-eq-true_iff}
 use Prim.Native.Nat.{ℕ}
 use native.Mathlib.Omega.{arith}
-use borrow.Author.Tests.{not-true, not-false}
 
 -- `impossible (cc)` closes a case in which two constructors would be equal
 pub impossible {ℓ} : {X : Type ℓ} → ◌≡◌ {A = ℕ} 0 1 → X
@@ -39,11 +38,11 @@ or_false_right false b h = h
 -- ------------------------------------------------------------------------------------------------
 -- Tests that a function gave, after `if !test { return false; }`
 
-pub passed : {r t : Bool} → r ≡ t → not r ≡ false → t ≡ true
-passed e n = sym e ∙ not-false _ n
+pub passed : {r t : Bool} → r ≡ t → r ≡ true → t ≡ true
+passed e n = sym e ∙ n
 
-pub failed : {r t : Bool} → r ≡ t → not r ≡ true → t ≡ false
-failed e n = sym e ∙ not-true _ n
+pub failed : {r t : Bool} → r ≡ t → r ≡ false → t ≡ false
+failed e n = sym e ∙ n
 
 -- a first test that fails decides
 pub fails_here : {a : Bool} (b : Bool) → a ≡ false → false ≡ (a && b)

@@ -1,6 +1,6 @@
 -- A loop that looks at the places of a rule from 0 up and stops at the first where it fails. Assumes nothing.
 use mathlib.Core.Path.{◌≡◌, sym, subst}
-use mathlib.Core.Bool.{Bool, true, false, not}
+use mathlib.Core.Bool.{Bool, true, false}
 use mathlib.Core.List.{[], ◌∷◌}
 use Prim.Native.Nat.{ℕ, ◌+◌, ◌≤◌, ◌<◌}
 use native.Mathlib.Omega.{arith}
@@ -29,10 +29,10 @@ module _ (rule : Rule) {n : ℕ} where
 
     -- r is what a function gave of place i
     module _ {r : Bool} (inside : i < n) (is : r ≡ rule.holds i) where
-      pub one_passed : not r ≡ false → Passed rule n (i + 1)
+      pub one_passed : r ≡ true → Passed rule n (i + 1)
       one_passed t = record { counted = p.counted; reached = omega arith; below = below_more _ _ p.below (passed is t) }
 
-      pub refuses : not r ≡ true → Refused rule.code i ≡ refusal (rule ∷ [])
+      pub refuses : r ≡ false → Refused rule.code i ≡ refusal (rule ∷ [])
       refuses t = sym (one_rule_refused rule i (omega (arith, p.counted)) p.below (failed is t))
 
 pub both_accept : (a b : Rule) → HoldsBelow a.holds a.places → HoldsBelow b.holds b.places → Accepted ≡ refusal (a ∷ b ∷ [])

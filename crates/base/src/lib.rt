@@ -1,4 +1,6 @@
 // What every layer shares: the answer of a check, its codes, and a test of a number. The rest is definitions and laws.
+#![tactic(auto)]
+
 pub mod codes;
 
 ghost use Rattle.std.specs.Prelude.{◌≡◌, [], ◌∷◌};
@@ -7,7 +9,7 @@ ghost use Rattle.base.specs.declared.Answer.TheVariants.{Refused};
 ghost use Rattle.base.specs.Refusals.{Rule, refusal, code_of, place_of};
 
 // The answer of a check.
-#[derive(Drop)]
+#[derive(Clone, Copy)]
 pub enum Answer {
     // Nothing was found.
     Accepted,

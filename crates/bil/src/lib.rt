@@ -1,6 +1,8 @@
 // The library's face: what C programs call. include/bil.h declares the same functions.
 //
 // Every function takes every number and every slice that can be passed to it and asks nothing of its caller.
+#![tactic(auto)]
+
 ghost use Rattle.std.specs.Prelude.{◌≡◌};
 ghost use Rattle.base.specs.Refusals.{code_of, place_of};
 ghost use Rattle.sealing.specs.Verdict as Sealing;
@@ -32,7 +34,7 @@ fn good(sub: u32, width: u32, a: u64, b: u64) -> bool
 }
 
 // The answer to a call of a binary operation.
-#[derive(Drop)]
+#[derive(Clone, Copy)]
 pub enum WordCall {
     // A bad sub, width or word.
     Bad,

@@ -4,6 +4,8 @@
 //
 // The text is made whole, in a buffer, by functions whose promise is its bytes; `main` only reads and writes. Where standard input can't be
 // read there are no bytes, which is refusal 1.
+#![tactic(auto)]
+
 ghost use Rattle.std.specs.Prelude.{◌+◌, ◌*◌, ◌≤◌, ◌≡◌, length, replicate};
 ghost use Rattle.base.specs.declared.Answer.TheVariants.{Accepted};
 ghost use Rattle.table.specs.Records.{Framed};

@@ -1,4 +1,6 @@
 // "At most 64 bindings in force travel with the walk": a struct by value, 11 bytes a binding.
+#![tactic(auto)]
+
 ghost use Rattle.std.specs.Prelude.{◌≡◌, ◌≤◌, ◌<◌};
 ghost use Rattle.value.specs.Values.{size, type_of};
 ghost use Rattle.evaluation.specs.Evaluation.{most_bindings};
@@ -8,7 +10,7 @@ use states::number_of;
 use value::{Value, ValueType};
 
 // The first `count` places are in use, the outermost binding first: a variable's number, and its value's kind, width and number.
-#[derive(Drop)]
+#[derive(Clone, Copy)]
 pub struct Bindings {
     pub variables: [u8; 64],
     pub kinds: [u8; 64],
@@ -18,7 +20,7 @@ pub struct Bindings {
 }
 
 // What is found for a variable.
-#[derive(Drop)]
+#[derive(Clone, Copy)]
 pub enum Found {
     // The value of the innermost binding of a variable.
     Bound(Value),

@@ -11,7 +11,7 @@ use operation::Evaluated;
 use value::Value;
 
 // What a test gives, with how many entries the log has then.
-#[derive(Drop)]
+#[derive(Clone, Copy)]
 pub enum Tested {
     Holds(usize),
     Fails(usize),

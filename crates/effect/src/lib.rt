@@ -1,4 +1,6 @@
 // What a statement does by itself to a state, a log and the next address: the ones without bodies whole, and the test of a guard.
+#![tactic(auto)]
+
 pub mod guard;
 pub mod single;
 
@@ -8,7 +10,7 @@ ghost use Rattle.effect.specs.Leaving.{goes_on, stops_at};
 use running::Ending;
 
 // How a run ended, the ticks that are left, how many entries the log has, and the next address.
-#[derive(Drop)]
+#[derive(Clone, Copy)]
 pub struct Ran {
     pub ending: Ending,
     pub ticks: u32,

@@ -2,6 +2,8 @@
 // is used exactly once, and how deep expressions and statements go.
 //
 // The checks here run on a table whose frame and records hold: refusals 1 to 7 did not come.
+#![tactic(auto)]
+
 pub mod depth;
 pub mod nesting;
 pub mod operands;

@@ -6,7 +6,7 @@ ghost use Rattle.forest.specs.Counting.{listed};
 use table::{Node, ops};
 
 // At most three expressions, in the order of the record's fields.
-#[derive(Drop)]
+#[derive(Clone, Copy)]
 pub enum Operands {
     Leaf,
     One(u32),

@@ -12,7 +12,7 @@ use memory::{ENTRY_SIZE, UNKNOWN_BYTE, write_entry};
 use value::Value;
 
 // What a store gives.
-#[derive(Drop)]
+#[derive(Clone, Copy)]
 pub enum Stored {
     // The memory, and how many entries the log has then.
     Done(Value, usize),

@@ -1,11 +1,13 @@
 // An entry of the log in its buffer: the one function that reads an entry's numbers, and the one that writes them. The definitions and
 // laws of chains, loads and stores are here too; the code of loads and stores is in `logs`.
+#![tactic(auto)]
+
 ghost use Rattle.std.specs.Prelude.{◌≡◌, [], ◌∷◌, ◌+◌, ◌-◌, ◌*◌, ◌≤◌, length};
 ghost use Rattle.std.proofs.lemmas.List.Edits.{sets};
 ghost use Rattle.memory.specs.Log.{entry_size, entry_at};
 
 // "previous entry (0 or a lower number; entries count from 1), address width (1 to 64), address, byte (0 to 255, or 256 unknown)"
-#[derive(Drop)]
+#[derive(Clone, Copy)]
 pub struct Entry {
     pub previous: u64,
     pub width: u64,

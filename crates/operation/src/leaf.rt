@@ -14,7 +14,7 @@ use typing::by_op;
 use value::{Value, ValueType};
 
 // What an expression gives before any operand is evaluated: its value, or nothing as yet, since it has operands.
-#[derive(Drop)]
+#[derive(Clone, Copy)]
 pub enum AtOnce {
     Is(Value),
     Deeper,

@@ -1,4 +1,6 @@
 // One step of evaluation: which operands a record's expression evaluates, in which order, and what it makes of their values.
+#![tactic(auto)]
+
 pub mod after;
 pub mod leaf;
 pub mod order;
@@ -6,7 +8,7 @@ pub mod order;
 use value::Value;
 
 // What an evaluation gives.
-#[derive(Drop)]
+#[derive(Clone, Copy)]
 pub enum Evaluated {
     // A value, and how many entries the log has then.
     Of(Value, usize),

@@ -5,7 +5,7 @@ ghost use Rattle.operation.specs.Order.{steps_of};
 use table::{Node, ops};
 
 // The first to be evaluated stands first.
-#[derive(Drop)]
+#[derive(Clone, Copy)]
 pub enum Steps {
     Leaf,
     One(u32),

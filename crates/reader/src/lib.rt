@@ -1,4 +1,6 @@
 // Refusals 1 to 7: the frame and every record of a table, of any bytes. What the later checks ask for holds where this accepts.
+#![tactic(auto)]
+
 ghost use Rattle.std.specs.Prelude.{◌≡◌, ◌++◌};
 ghost use Rattle.base.specs.Refusals.{refusal};
 ghost use Rattle.table.specs.Records.{Framed, header_rules, record_rules};

@@ -1,4 +1,6 @@
 // The run of a table: of an accepted one from an accepted start, and of whatever is lent.
+#![tactic(auto)]
+
 pub mod accepted;
 pub mod entry;
 pub mod numbers;
@@ -6,7 +8,7 @@ pub mod numbers;
 use running::Ending;
 
 // What a run gives back: how it ended, the ticks it took, how many entries the log has, and the next address.
-#[derive(Drop)]
+#[derive(Clone, Copy)]
 pub struct Outcome {
     pub ending: Ending,
     pub ticks: u32,

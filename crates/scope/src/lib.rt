@@ -5,6 +5,8 @@
 // after their operands, so that from the last expression down each has what it needs when its turn comes.
 //
 // `rules` has refusals 8 to 11 together.
+#![tactic(auto)]
+
 ghost use Rattle.std.specs.Prelude.{◌≡◌, [], ◌∷◌, ◌≤◌, ◌<◌, length, replicate};
 ghost use Rattle.base.specs.declared.Answer.TheVariants.{Accepted};
 ghost use Rattle.base.specs.Choice.{if◌then◌else◌};

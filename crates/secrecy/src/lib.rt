@@ -1,1 +1,2 @@
 // What a run shows of its sealed variables. Definitions and laws alone.
+#![tactic(auto)]

@@ -1,4 +1,6 @@
 // A state's buffer: two numbers a variable.
+#![tactic(auto)]
+
 ghost use Rattle.std.specs.Prelude.{◌≡◌, ◌+◌, ◌*◌, ◌<◌, length};
 ghost use Rattle.evaluation.specs.State.{value_of, kind_of, number_of, in_state, moved};
 

@@ -1,10 +1,12 @@
 // The table of paper 01: its bytes, its frame and its records.
+#![tactic(auto)]
+
 pub mod bytes;
 pub mod framing;
 pub mod ops;
 
 // The header: format, address width A, then the counts V, E and S, each with the offset of its section, and the total length.
-#[derive(Drop)]
+#[derive(Clone, Copy)]
 pub struct Header {
     pub format: u32,
     pub width: u32,
@@ -19,7 +21,7 @@ pub struct Header {
 
 // A variable's 8 bytes: kind 1 immediate or 2 memory, label 0 open or 1 sealed, width, address width, role 0 state or 1 let, and the
 // last three bytes as one number.
-#[derive(Drop)]
+#[derive(Clone, Copy)]
 pub struct Variable {
     pub kind: u32,
     pub label: u32,
@@ -30,7 +32,7 @@ pub struct Variable {
 }
 
 // An expression's or a statement's 16 bytes. A statement's sub, p and q are its three zeros.
-#[derive(Drop)]
+#[derive(Clone, Copy)]
 pub struct Node {
     pub op: u32,
     pub sub: u32,

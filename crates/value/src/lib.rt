@@ -2,6 +2,8 @@
 //
 // Each operation takes the value itself and hands back the resulting value with its width, exactly as specs/Values.antt says.
 // It asks that its operands are sound (a word fits its width) and have the types that paper 01's type rules ask for.
+#![tactic(auto)]
+
 ghost use Rattle.std.specs.Prelude.{◌≡◌, ◌+◌, ◌-◌, ◌≤◌};
 ghost use Rattle.word.specs.Words.{Width};
 ghost use Rattle.word.specs.Subs as Subs;
@@ -11,7 +13,7 @@ ghost use Rattle.value.specs.Values.{Sound, Yields, type_of, size};
 use word::Computed;
 
 // The type of a value.
-#[derive(Drop)]
+#[derive(Clone, Copy)]
 pub enum ValueType {
     // An immediate: its width.
     Imm(u32),
@@ -19,7 +21,7 @@ pub enum ValueType {
     Mem(u32),
 }
 
-#[derive(Drop)]
+#[derive(Clone, Copy)]
 pub enum Value {
     // A word: its width and its bits.
     Word(u32, u64),

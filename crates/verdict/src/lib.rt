@@ -1,6 +1,8 @@
 // The entries: check gives the first of refusals 1 to 13, the seal check the first of 1 to 15, of any bytes.
 //
 // Each part is called only where those before it accepted, which is what it asks for.
+#![tactic(auto)]
+
 ghost use Rattle.std.specs.Prelude.{◌≡◌, ◌++◌};
 ghost use Rattle.base.specs.Refusals.{refusal};
 ghost use Rattle.table.specs.Records.{Framed, RecordsHold};

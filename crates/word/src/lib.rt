@@ -3,6 +3,8 @@
 // A word of width w is a number below 2^w. Each function asks that its widths are 1 to 64 and that its words fit them, and
 // gives exactly what the definition of the same name in specs/Words.antt says: a word that fits, or, where paper 01 says so,
 // unknown. The three functions here choose an operation by the number that paper 01 gives it (specs/Subs.antt).
+#![tactic(auto)]
+
 ghost use Rattle.word.specs.Words.{IsWord, AreWords, Width, Computes};
 ghost use Rattle.word.specs.Subs as Subs;
 
@@ -17,7 +19,7 @@ pub mod subs;
 pub mod width;
 
 // What an operation computes.
-#[derive(Drop)]
+#[derive(Clone, Copy)]
 pub enum Computed {
     // A word.
     Word(u64),

@@ -1,0 +1,8 @@
+-- `bil::bil_check_place`: the place of the check's answer. Assumes nothing.
+use mathlib.Core.Path.{ap, ◌∙◌}
+use borrow.Author.Rules.{rules}
+use Rattle.base.specs.Refusals.{place_of}
+use Rattle.bil.proofs.bil_check_place.Goals as goal
+
+pub returns : goal.returns
+returns c = c.place_of.ensures ∙ ap place_of c.check.ensures

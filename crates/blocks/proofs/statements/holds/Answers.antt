@@ -1,0 +1,11 @@
+-- `statements::holds`: the two halves of the rule. Assumes nothing.
+use mathlib.Core.Path.{ap}
+use borrow.Author.Rules.{rules}
+use Rattle.table.specs.declared.Header.{Header}
+use Rattle.blocks.proofs.StatementLaws.{rule_by_parts}
+use Rattle.blocks.proofs.statements.holds.Goals as goal
+
+pub returns : goal.returns
+returns c =
+    rule_by_parts c.args.s.now c.args.i (ap (λ (h : Header). h.expressions) c.requires.framed.is) c.statement-r.ensures
+    c.fields_ok-named.ensures c.second_end-end.ensures c.block_end-around.ensures

@@ -1,0 +1,27 @@
+-- `single::moves`: by what the evaluation gave. Assumes nothing.
+use borrow.Author.Rules.{rules}
+use Rattle.effect.proofs.LeavingLaws.{ready}
+use Rattle.effect.proofs.SingleLaws.{move_asks, moves_on, moves_not}
+use Rattle.effect.proofs.single.moves.Goals as goal
+
+pub whole-v-requires : goal.whole-v-requires
+whole-v-requires c =
+    let p = c.requires in
+    (ready p.0, (move_asks p.0 p.1.0 p.1.1.0 p.1.1.1).0)
+
+pub write-requires : goal.write-requires
+write-requires c =
+    let p = c.requires in
+    (move_asks p.0 p.1.0 p.1.1.0 p.1.1.1).1
+
+pub returns-in-Of : goal.returns-in-Of
+returns-in-Of c =
+    let p = c.requires in
+    moves_on p.0 p.1.0 p.1.1.0 p.1.1.1 c.whole-v.ensures c.args.ticks
+    c.in-Of.is c.write.ensures c.goes_on.ensures
+
+pub returns-in-Stopped : goal.returns-in-Stopped
+returns-in-Stopped c =
+    let p = c.requires in
+    moves_not p.0 p.1.0 p.1.1.0 p.1.1.1 c.whole-v.ensures c.args.ticks
+    c.in-Stopped.is c.stops_at.ensures

@@ -1,0 +1,26 @@
+-- `single::single`: by the op. Assumes nothing.
+use borrow.Author.Rules.{rules}
+use Rattle.effect.proofs.SingleLaws.{passes}
+use Rattle.effect.proofs.single.single.Goals as goal
+
+pub moves-requires : goal.moves-requires
+moves-requires c =
+    let p = c.requires in
+    record { running = p.0; standing = p.1.0; r_value = p.1.1.0; op_value = c.in-1.is }
+
+pub jumps-requires : goal.jumps-requires
+jumps-requires c =
+    let p = c.requires in
+    record { running = p.0; standing = p.1.0; r_value = p.1.1.0; op_value = c.in-2.is }
+
+pub returns-in_default : goal.returns-in_default
+returns-in_default c =
+    let p = c.requires in
+    passes p.0 p.1.0 p.1.1.0 c.args.ticks c.in-1.rest.0.1 c.in-1.rest.1 p.1.1.1.0 p.1.1.1.1
+    c.goes_on.ensures
+
+pub returns-in-1 : goal.returns-in-1
+returns-in-1 c = c.moves.ensures
+
+pub returns-in-2 : goal.returns-in-2
+returns-in-2 c = c.jumps.ensures

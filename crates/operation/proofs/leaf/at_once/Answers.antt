@@ -1,0 +1,19 @@
+-- `leaf::at_once`: the expression's record. Assumes nothing.
+use mathlib.Core.Path.{◌≡◌, sym, ap, subst, ◌∙◌}
+use Prim.Native.Nat.{◌<◌}
+use borrow.Author.Rules.{rules}
+use Rattle.table.specs.declared.Node.{Node}
+use Rattle.table.specs.Decode.{context}
+use Rattle.bindings.specs.Bound.{bindings_of}
+use Rattle.operation.specs.ByOp.{at_once}
+use Rattle.operation.proofs.leaf.at_once.Goals as goal
+
+pub of_record-requires : goal.of_record-requires
+of_record-requires c =
+    let p = c.requires in
+    record { framed = p.0; variables_in_bounds = p.1.0; count_le_most_bindings = p.1.1.0; a_lt_variables = subst (λ (r : Node). r.op ≡ 1 → r.a < c.args.h.variables) (sym c.expression.ensures) p.1.1.1.1 }
+
+pub returns : goal.returns
+returns c =
+    c.of_record.ensures
+    ∙ ap (λ (r : Node). at_once (context c.args.s.now) c.args.state.now r (bindings_of c.args.bindings)) c.expression.ensures

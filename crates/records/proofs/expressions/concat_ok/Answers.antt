@@ -1,0 +1,11 @@
+-- `expressions::concat_ok`: field by field. Assumes nothing.
+use mathlib.Core.Path.{refl}
+use borrow.Author.Rules.{rules}
+use Rattle.table.specs.Fields.{expression_rows}
+use Rattle.table.specs.Records.{field_ok}
+use Rattle.records.proofs.RowLaws.{by_row}
+use Rattle.records.proofs.expressions.concat_ok.Goals as goal
+
+pub returns : goal.returns
+unfolding expression_rows field_ok
+returns c = λ l. by_row l c.args.i 12 c.args.n c.requires c.all.ensures refl refl refl refl refl refl refl

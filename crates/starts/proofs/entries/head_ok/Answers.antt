@@ -1,0 +1,33 @@
+-- `entries::head_ok`: an entry of the first count has its width in the buffer. Assumes nothing.
+use mathlib.Core.Path.{◌≡◌, sym, ap, ◌∙◌}
+use Prim.Native.Nat.{ℕ, suc, ◌-◌, ◌<◌}
+use native.Mathlib.Omega.{arith}
+use lib.Dec.{eqb}
+use borrow.Author.Rules.{rules}
+use borrow.Author.Tests.{le-leb, lt-leb}
+use Rattle.base.proofs.BoolLaws.{and_both, fails_here, goes_on}
+use Rattle.memory.specs.declared.Entry.{Entry}
+use Rattle.memory.specs.Log.{entries, width_at}
+use Rattle.memory.proofs.LogLaws.{width_in_buffer}
+use Rattle.starts.proofs.entries.head_ok.Goals as goal
+
+pub returns-then-n-lt1 : goal.returns-then-n-lt1
+returns-then-n-lt1 c = let n = c.args.n in fails_here _ (sym (fails_here _ (lt-leb 1 n c.if-n-lt1.true)))
+
+pub returns-then-count-n : goal.returns-then-count-n
+returns-then-count-n c =
+    let s = c.args in
+    fails_here _ (sym (goes_on (le-leb 1 s.n c.if-n-lt1.false) (sym (lt-leb s.n s.count c.if-count-n.true))))
+
+pub returns : goal.returns
+returns c =
+    let s = c.args in
+    let i = s.n - 1 in
+    let named : suc i ≡ s.n = omega arith in
+    let inside : i < s.count = omega arith in
+    let width : width_at (entries s.log.now s.count) s.n ≡ c.entry_at.result.width =
+    ap (λ (k : ℕ). width_at (entries s.log.now s.count) k) (sym named)
+    ∙ width_in_buffer s.log.now s.count i inside
+    ∙ ap (λ (e : Entry). e.width) (sym c.entry_at.ensures) in
+    goes_on (and_both (le-leb 1 s.n c.if-n-lt1.false) (le-leb s.n s.count c.if-count-n.false))
+    (ap (λ (x : ℕ). eqb x s.w) (sym width))

@@ -1,0 +1,11 @@
+-- `bytes::expression`: the frame holds the record. Assumes nothing.
+use mathlib.Core.Path.{ap, ◌∙◌}
+use Prim.Native.Nat.{◌+◌, ◌*◌}
+use Rattle.table.specs.declared.Header.{Header}
+use Rattle.table.specs.Bytes.{expression, expressions_from, node_at}
+use borrow.Author.Rules.{rules}
+use Rattle.table.proofs.bytes.expression.Goals as goal
+
+pub returns : goal.returns
+unfolding expression
+returns c = c.node_at.ensures ∙ ap (λ (h : Header). node_at c.args.s.now (expressions_from h + 16 * c.args.i)) c.requires.framed.is

@@ -1,0 +1,13 @@
+-- `bytes::statement`: the frame holds the record. Assumes nothing.
+use mathlib.Core.Path.{◌≡◌, ap, ◌∙◌}
+use Prim.Native.Nat.{◌+◌, ◌*◌}
+use Rattle.table.specs.declared.Header.{Header}
+use Rattle.table.specs.Bytes.{statement as statement_of, statements_from, node_at}
+use borrow.Author.Rules.{rules}
+use Rattle.table.proofs.bytes.statement.Goals as goal
+
+pub returns : goal.returns
+unfolding statement_of
+returns c =
+    let there : c.node_at.result ≡ node_at c.args.s.now (statements_from c.args.h + 16 * c.args.i) = c.node_at.ensures in
+    there ∙ ap (λ (h : Header). node_at c.args.s.now (statements_from h + 16 * c.args.i)) c.requires.framed.is

@@ -1,0 +1,21 @@
+-- `typecheck::rules::lowest_untyped`: the invariant is that every expression passed has a type, the measure what is left of them.
+-- Assumes nothing.
+use mathlib.Core.Path.{refl, ap}
+use Prim.Native.Nat.{◌-◌}
+use borrow.Author.Rules.{rules}
+use Rattle.base.proofs.PassedLaws.{Passed, none_passed, one_passed, refuses, accepts}
+use Rattle.table.specs.declared.Header.{Header}
+use Rattle.typing.specs.Verdict.{expression_type_rule}
+use Rattle.typecheck.proofs.rules.lowest_untyped.Goals as goal
+
+pub loop-i-init : goal.loop-i-init
+loop-i-init c = none_passed _ (ap (λ (h : Header). h.expressions) c.requires.framed.is) refl
+
+pub returns-then-not-expression_ok : goal.returns-then-not-expression_ok
+returns-then-not-expression_ok c = refuses _ c.loop-i.invariant c.loop-i-test.true c.expression_ok.ensures c.if-not-expression_ok.true
+
+pub loop-i-preserved : goal.loop-i-preserved
+loop-i-preserved c = one_passed _ c.loop-i.invariant c.loop-i-test.true c.expression_ok.ensures c.if-not-expression_ok.false
+
+pub returns : goal.returns
+returns c = accepts _ c.loop-i.invariant c.loop-i-test.false

@@ -1,0 +1,25 @@
+-- `typecheck::rules::types_ok`: the invariant is that every statement passed keeps its rule, the measure what is left of them.
+-- Assumes nothing.
+use mathlib.Core.Path.{refl, ap}
+use Prim.Native.Nat.{◌-◌}
+use borrow.Author.Rules.{rules}
+use Rattle.base.proofs.PassedLaws.{Passed, none_passed, one_passed, refuses, all_passed}
+use Rattle.table.specs.declared.Header.{Header}
+use Rattle.typing.specs.Verdict.{expression_type_rule, statement_type_rule, type_rules}
+use Rattle.typecheck.proofs.VerdictLaws.{types_accepted}
+use Rattle.typecheck.proofs.rules.types_ok.Goals as goal
+
+pub loop-i-init : goal.loop-i-init
+loop-i-init c = none_passed _ (ap (λ (h : Header). h.statements) c.requires.framed.is) refl
+
+pub returns-then-not-statement_ok : goal.returns-then-not-statement_ok
+returns-then-not-statement_ok c =
+    let s = c.args.s.now in
+    c.or_refused.ensures (expression_type_rule s) (statement_type_rule s) c.lowest_untyped.ensures
+    (refuses _ c.loop-i.invariant c.loop-i-test.true c.statement_ok.ensures c.if-not-statement_ok.true)
+
+pub loop-i-preserved : goal.loop-i-preserved
+loop-i-preserved c = one_passed _ c.loop-i.invariant c.loop-i-test.true c.statement_ok.ensures c.if-not-statement_ok.false
+
+pub returns : goal.returns
+returns c = let pre = c.requires in types_accepted pre.1.0 pre.1.1 (all_passed _ c.loop-i.invariant c.loop-i-test.false)

@@ -1,0 +1,12 @@
+-- Signed readings are in order as the raised words are. Assumes nothing.
+use Rattle.std.proofs.Common.{leb, sym, ap, ◌∙◌, ap₂, rules}
+use Rattle.word.specs.Words.{bit}
+use Rattle.word.proofs.CompareLaws.{le_raised}
+use Rattle.word.proofs.FitLaws.{gives_too}
+use Rattle.word.proofs.compare.sle.Goals as goal
+
+pub returns : goal.returns
+returns c =
+    let e = ap₂ leb c.raised.ensures c.raised-2.ensures in
+    gives_too c.le.ensures
+    (ap bit (e ∙ sym (le_raised c.args.w c.requires.width.least c.args.a c.args.b c.requires.left c.requires.right)))
