@@ -10,15 +10,16 @@ ghost use Rattle.std.specs.Prelude.{◌+◌, ◌*◌, ◌≤◌, ◌≡◌, leng
 ghost use Rattle.base.specs.declared.Answer.TheVariants.{Accepted};
 ghost use Rattle.table.specs.Records.{Framed};
 ghost use Rattle.typing.specs.Verdict as Typing;
-ghost use Rattle.running.specs.Result.{result};
+ghost use Rattle.running.specs.Result as Runs;
 ghost use Rattle.report.specs.Placed.{Adds};
 ghost use Rattle.bilrun.specs.Report as Report;
 ghost use Rattle.bilrun.specs.Report.{started};
 
 use base::{Answer, code_of, place_of};
-use libc::{STDIN_FILENO, STDOUT_FILENO};
 use report::lines::{answer_line, run_line, variable_lines};
 use runner::entry::run;
+use std::io;
+use std::io::{Read, Write};
 use table::Header;
 use table::bytes::header;
 use verdict::{check, seal_check};
@@ -39,7 +40,7 @@ fn ran(
     requires state_value { state.old ≡ replicate (2 * h.variables) 0 }
     requires log_value { log.old ≡ replicate 8192 0 }
     requires at_in_bounds { at + 13677 ≤ length out.old }
-    ensures* { λ r. ⌜ Adds 13677 out.old at (Report.ran table.now (result (started table.now))) out.new r ⌝ }
+    ensures { Adds 13677 out.old at (Report.ran table.now (Runs.result (started table.now))) out.new result }
 {
     let o = run(table, state, log, 0, 0, BUDGET);
     let ending = o.ending;
@@ -59,7 +60,7 @@ fn ran(
 fn accepted(table: &[u8], out: &mut [u8], at: usize) -> usize
     requires table_value { Typing.check table.now ≡ Accepted }
     requires at_in_bounds { at + 13727 ≤ length out.old }
-    ensures* { λ r. ⌜ Adds 13727 out.old at (Report.accepted table.now) out.new r ⌝ }
+    ensures { Adds 13727 out.old at (Report.accepted table.now) out.new result }
 {
     let h = header(table);
     let seal = seal_check(table);
@@ -74,7 +75,7 @@ fn accepted(table: &[u8], out: &mut [u8], at: usize) -> usize
 // The whole text for a table, whatever its bytes.
 fn report(table: &[u8], out: &mut [u8]) -> usize
     requires { 13777 ≤ length out.old }
-    ensures* { λ r. ⌜ Adds 13777 out.old 0 (Report.report table.now) out.new r ⌝ }
+    ensures { Adds 13777 out.old 0 (Report.report table.now) out.new result }
 {
     let verdict = check(table);
     let at = answer_line(out, 0, b"verdict", code_of(verdict), place_of(verdict));
@@ -84,10 +85,26 @@ fn report(table: &[u8], out: &mut [u8]) -> usize
     }
 }
 
-fn main() {
-    let mut input = io::large_buffer();
-    let n = io::read_full(STDIN_FILENO, &mut input);
+// Reads until the buffer is full or the input ends, and tells how many bytes came. A read that fails is taken for the end.
+fn read_full<R: Read + Drop>(mut input: R, into: &mut [u8]) -> usize
+    ensures { result ≤ length into.new }
+{
+    let mut done = 0;
+    // each read that goes on brings a byte at least
+    for _ in 0..into.len() {
+        match input.read(&mut into[done..]) {
+            Ok(0) => break,
+            Ok(n) => done += n,
+            Err(_) => break,
+        }
+    }
+    done
+}
+
+fn main(rt: HostRuntime) -> io::Result<()> {
+    let mut input = [0u8; 65536];
+    let n = read_full(rt.stdin(), &mut input);
     let mut text = [0u8; 16384];
     let end = report(&input[..n], &mut text);
-    io::write_all(STDOUT_FILENO, &text[..end]);
+    rt.stdout().write_all(&text[..end])
 }

@@ -1,6 +1,6 @@
 // The entry: any table, state, log, count, next address and budget.
 ghost use Rattle.std.specs.Prelude.{◌≡◌};
-ghost use Rattle.running.specs.Result.{result};
+ghost use Rattle.running.specs.Result as Runs;
 ghost use Rattle.starts.specs.Lent.{lent};
 ghost use Rattle.runner.specs.Given.{Gives, refused_at};
 
@@ -14,7 +14,7 @@ use verdict::check;
 
 // "Codes 1 to 18 leave all buffers unchanged, ticks 0, log count and next address as given."
 fn refused(code: u32, place: u32, count: u64, next: u64) -> Outcome
-    ensures* { λ r. ⌜ r ≡ refused_at code place count next ⌝ }
+    ensures { result ≡ refused_at code place count next }
 {
     Outcome {
         ending: Ending::Refused(code, place),
@@ -33,7 +33,7 @@ pub fn run(
     next: u64,
     budget: u32,
 ) -> Outcome
-    ensures* { λ r. ⌜ Gives (result (lent table.now state.old log.old count next budget)) r state.new log.new ⌝ }
+    ensures { Gives (Runs.result (lent table.now state.old log.old count next budget)) result state.new log.new }
 {
     match check(table) {
         Answer::Refused(code, place) => refused(code, place, count, next),

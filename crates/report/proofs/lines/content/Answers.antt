@@ -1,0 +1,42 @@
+-- The word of the pair's kind, and its number where it has one. Assumes nothing.
+use mathlib.Core.Path.{sym, subst}
+use mathlib.Core.List.{List, [], ◌∷◌, ◌++◌}
+use Prim.Native.Nat.{ℕ}
+use native.Mathlib.Omega.{arith}
+use Rattle.base.proofs.NumberedLaws.{numbered_other}
+use Rattle.report.specs.Lines.{content, field, absent_word, word_word, unknown_word, memory_word}
+use Rattle.report.specs.Placed.{Adds}
+use Rattle.report.proofs.PlacedLaws.{then_adds, adds_wider}
+use borrow.Author.Rules.{rules}
+use Rattle.report.proofs.lines.content.Goals as goal
+
+pub returns-in-1 : goal.returns-in-1
+unfolding content
+returns-in-1 c = rw c.in-1.is (adds_wider (then_adds c.add-worded.ensures c.field.ensures) (omega arith))
+
+pub returns-in-2 : goal.returns-in-2
+unfolding content
+returns-in-2 c = rw c.in-2.is (adds_wider c.add.ensures (omega arith))
+
+pub returns-in-3 : goal.returns-in-3
+unfolding content
+returns-in-3 c = rw c.in-3.is (adds_wider (then_adds c.add-named.ensures c.field-in-3.ensures) (omega arith))
+
+pub returns-in_default : goal.returns-in_default
+unfolding content
+returns-in_default c =
+    let n = c.args.n in
+    let other = numbered_other (Unit {0}) absent_word ((1, word_word ++ field n) ∷ (2, unknown_word) ∷ (3, memory_word ++ field n) ∷ []) c.args.kind c.in-1.rest in
+    subst (λ (t : List ℕ). Adds 28 c.args.out.now c.args.at t c.add-in_default.new.0 c.add-in_default.result) (sym other) (adds_wider c.add-in_default.ensures (omega arith))
+
+pub add-worded-requires : goal.add-worded-requires
+add-worded-requires c = slice-aggregate-add c
+
+pub add-named-requires : goal.add-named-requires
+add-named-requires c = slice-aggregate-add-2 c
+
+pub add-requires-in_default : goal.add-requires-in_default
+add-requires-in_default c = slice-aggregate-add-3 c
+
+pub shape_of-out-in-2 : goal.shape_of-out-in-2
+shape_of-out-in-2 c = slice-aggregate-add-4 c
