@@ -1,9 +1,6 @@
 -- `expressions::expressions`: the invariant is that the rule holds at every expression passed, the measure what is left of them. Assumes nothing.
-use mathlib.Core.Path.{refl, ap}
 use Prim.Native.Nat.{◌-◌}
-use borrow.Author.Rules.{rules}
-use Rattle.base.proofs.PassedLaws.{Passed, none_passed, one_passed, refuses, accepts}
-use Rattle.table.specs.declared.Header.{Header}
+use Rattle.base.proofs.PassedLaws.{Passed}
 use Rattle.table.specs.Records.{expression_rule}
 use Rattle.records.proofs.expressions.expressions.Given as goal
 

@@ -1,6 +1,5 @@
 -- `expressions::let_ok`: field by field. Assumes nothing.
 use mathlib.Core.Path.{refl}
-use borrow.Author.Rules.{rules}
 use Rattle.table.specs.Fields.{expression_rows}
 use Rattle.table.specs.Records.{field_ok}
 use Rattle.records.proofs.RowLaws.{by_row}

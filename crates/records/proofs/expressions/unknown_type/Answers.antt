@@ -1,6 +1,5 @@
 -- `expressions::unknown_type`: by q, and then the first test that fails decides. Assumes nothing.
 use mathlib.Core.Path.{refl}
-use borrow.Author.Rules.{rules}
 use borrow.Author.Tests.{eq-eqb, ne_eqb}
 use Rattle.base.proofs.BoolLaws.{fails_here, goes_on}
 use Rattle.records.proofs.expressions.unknown_type.Goals as goal

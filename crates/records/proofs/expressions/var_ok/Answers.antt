@@ -3,7 +3,6 @@ use mathlib.Core.Path.{◌≡◌, refl, sym, ap}
 use mathlib.Core.Bool.{true, ◌&&◌}
 use Prim.Native.Nat.{ℕ}
 use lib.Dec.{ltb, eqb}
-use borrow.Author.Rules.{rules}
 use Rattle.table.specs.Fields.{expression_rows}
 use Rattle.table.specs.Records.{field_ok}
 use Rattle.records.proofs.RowLaws.{by_row}

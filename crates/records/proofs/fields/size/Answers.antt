@@ -1,5 +1,4 @@
 -- `fields::size`: by the first test. Assumes nothing.
-use borrow.Author.Rules.{rules}
 use borrow.Author.Tests.{eq-eqb, ne_eqb}
 use Rattle.base.proofs.BoolLaws.{fails_here, goes_on}
 use Rattle.table.specs.Records.{field_ok}

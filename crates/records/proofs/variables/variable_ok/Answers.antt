@@ -1,6 +1,5 @@
 -- `variables::variable_ok`: the first test that fails decides, and the last one where none does. Assumes nothing.
 use mathlib.Core.Path.{refl}
-use borrow.Author.Rules.{rules}
 use borrow.Author.Tests.{le-leb, lt-leb}
 use Rattle.base.proofs.BoolLaws.{passed, failed, fails_here, goes_on}
 use Rattle.table.specs.Records.{variable_ok}

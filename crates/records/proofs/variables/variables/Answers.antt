@@ -1,8 +1,6 @@
 -- `variables::variables`: the invariant is that the rule holds at every variable passed, the measure what is left of them. Assumes nothing.
 use mathlib.Core.Path.{refl, ap, ◌∙◌}
-use Prim.Native.Nat.{◌-◌}
-use borrow.Author.Rules.{rules}
-use Rattle.base.proofs.PassedLaws.{Passed, none_passed, one_passed, refuses, accepts}
+use Rattle.base.proofs.PassedLaws.{none_passed, one_passed, refuses, accepts}
 use Rattle.table.specs.declared.Header.{Header}
 use Rattle.table.specs.Records.{variable_rule, variable_ok}
 use Rattle.records.proofs.variables.variables.Goals as goal
@@ -20,6 +18,7 @@ loop-i-preserved c =
     c.if-not-variable_ok.false
 
 pub loop-i-init : goal.loop-i-init
+unfolding variable_rule
 loop-i-init c = none_passed _ (ap (λ (h : Header). h.variables) c.requires.is) refl
 
 pub returns : goal.returns

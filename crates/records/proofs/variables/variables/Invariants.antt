@@ -1,10 +1,7 @@
 -- `variables::variables`: the invariant is that the rule holds at every variable passed, the measure what is left of them. Assumes nothing.
-use mathlib.Core.Path.{refl, ap, ◌∙◌}
 use Prim.Native.Nat.{◌-◌}
-use borrow.Author.Rules.{rules}
-use Rattle.base.proofs.PassedLaws.{Passed, none_passed, one_passed, refuses, accepts}
-use Rattle.table.specs.declared.Header.{Header}
-use Rattle.table.specs.Records.{variable_rule, variable_ok}
+use Rattle.base.proofs.PassedLaws.{Passed}
+use Rattle.table.specs.Records.{variable_rule}
 use Rattle.records.proofs.variables.variables.Given as goal
 
 abbrev pub invariant-loop-i : goal.invariant-loop-i
