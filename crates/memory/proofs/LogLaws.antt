@@ -2,11 +2,11 @@
 use mathlib.Core.Path.{◌≡◌, refl, ap, ◌∙◌}
 use mathlib.Core.Bool.{Bool, true, false}
 use mathlib.Core.List.{List, [], ◌∷◌, ◌++◌, append_assoc}
-use Prim.Native.Nat.{ℕ, zero, suc, ◌+◌, ◌*◌, ◌≤◌, ◌<◌}
+use Prim.Native.Nat.{ℕ, zero, suc, ◌*◌, ◌≤◌, ◌<◌}
 use native.Mathlib.Nat.{le_refl, not-suc-le-zero}
 use native.Mathlib.Omega.{arith}
 use lib.Dec.{eqb, eqb-zero-suc}
-use lib.ListN.{length, get_or, drop, length-append, length-drop}
+use lib.ListN.{length, drop, length-append, length-drop}
 use lib.Seq.{get_or-append-add, get_or-append_seam}
 use borrow.Author.Tests.{eq-eqb, ne_eqb, eqb-true, eqb-false}
 use Rattle.memory.specs.declared.Entry.{Entry}
@@ -85,7 +85,8 @@ entries_numbers_of : (L : Log) (rest : List ℕ) → entries (numbers_of L ++ re
 unfolding entries numbers_of
 entries_numbers_of [] rest = refl
 entries_numbers_of (e ∷ L) rest =
-    rw (append_assoc (numbers_of L) (fields_of e) rest) λ i. entry_at_back L e rest i ∷ entries_numbers_of L (fields_of e ++ rest) i
+    ap (λ (l : List ℕ). entries l (suc (length L))) (append_assoc (numbers_of L) (fields_of e) rest)
+    ∙ (λ i. entry_at_back L e rest i ∷ entries_numbers_of L (fields_of e ++ rest) i)
 
 -- what is put into a buffer is read back
 pub entries_holding : (l : List ℕ) (L : Log) → entries (holding l L) (length L) ≡ L
