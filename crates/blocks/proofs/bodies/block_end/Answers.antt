@@ -2,7 +2,6 @@
 use mathlib.Core.Path.{◌≡◌, sym, ap, ◌∙◌}
 use Prim.Native.Nat.{suc, ◌-◌}
 use native.Mathlib.Omega.{arith}
-use borrow.Author.Rules.{rules}
 use Rattle.table.specs.declared.Header.{Header}
 use Rattle.blocks.specs.Owners.{owner}
 use Rattle.blocks.proofs.OwnerLaws.{owner_le, outermost_end, first_body-end, second_body-end}
@@ -16,7 +15,7 @@ returns-then-owner-eq0 c =
 pub first_end-first-requires : goal.first_end-first-requires
 first_end-first-requires c =
     let le = owner_le c.args.s.now c.args.i c.args.i in
-    (c.requires.framed, omega (arith, le, c.requires.i_lt_statements, c.requires.owner_value))
+    record { framed = c.requires.framed; j_lt_statements = omega (arith, le, c.requires.i_lt_statements, c.requires.owner_value) }
 
 pub returns-then-i-first : goal.returns-then-i-first
 returns-then-i-first c =

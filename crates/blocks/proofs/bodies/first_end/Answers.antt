@@ -3,7 +3,6 @@ use mathlib.Core.Path.{ap, ◌∙◌}
 use mathlib.Core.Bool.{◌||◌}
 use native.Mathlib.Omega.{arith}
 use lib.Dec.{eqb}
-use borrow.Author.Rules.{rules}
 use Rattle.base.specs.Choice.{if◌then◌else◌}
 use Rattle.table.specs.declared.Node.{Node}
 use Rattle.table.specs.Records.{first_end}

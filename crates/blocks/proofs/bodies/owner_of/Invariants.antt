@@ -1,13 +1,8 @@
 -- `bodies::owner_of`: the invariant: the owner is among the statements below n; where the statement below n doesn't hold i, it is
 -- among those below that one's owner. The measure is n. Assumes nothing.
-use mathlib.Core.Path.{◌≡◌, refl, sym, ◌∙◌, ap}
-use Prim.Native.Nat.{ℕ, suc, ◌-◌, ◌≤◌}
-use native.Mathlib.Omega.{arith}
-use mathlib.Core.List.{List}
-use lib.ListN.{get_or}
-use borrow.Author.Rules.{rules}
+use mathlib.Core.Path.{◌≡◌}
+use Prim.Native.Nat.{◌≤◌}
 use Rattle.blocks.specs.Owners.{owner}
-use Rattle.blocks.proofs.OwnerLaws.{owner_le, owner_none, owner_here, owner_climbs}
 use Rattle.blocks.proofs.bodies.owner_of.Given as goal
 
 abbrev pub invariant-loop-n : goal.invariant-loop-n

@@ -2,7 +2,6 @@
 use mathlib.Core.Path.{ap, ap₂, ◌∙◌}
 use Prim.Native.Nat.{◌+◌}
 use lib.Dec.{eqb}
-use borrow.Author.Rules.{rules}
 use Rattle.base.specs.Choice.{if◌then◌else◌}
 use Rattle.table.specs.declared.Node.{Node}
 use Rattle.table.specs.Records.{second_end}

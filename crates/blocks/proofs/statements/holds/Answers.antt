@@ -1,6 +1,5 @@
 -- `statements::holds`: the two halves of the rule. Assumes nothing.
 use mathlib.Core.Path.{ap}
-use borrow.Author.Rules.{rules}
 use Rattle.table.specs.declared.Header.{Header}
 use Rattle.blocks.proofs.StatementLaws.{rule_by_parts}
 use Rattle.blocks.proofs.statements.holds.Goals as goal

@@ -1,5 +1,4 @@
 -- `statements::state_variable`: a variable of the role that the field asks. Assumes nothing.
-use borrow.Author.Rules.{rules}
 use Rattle.table.specs.Records.{field_ok}
 use Rattle.blocks.proofs.statements.state_variable.Goals as goal
 

@@ -1,6 +1,5 @@
 -- `statements::statements`: what the pass answers, with room for the owners. Assumes nothing.
 use native.Mathlib.Omega.{arith}
-use borrow.Author.Rules.{rules}
 use Rattle.blocks.proofs.statements.statements.Goals as goal
 
 -- the small place is enough
