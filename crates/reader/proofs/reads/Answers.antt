@@ -1,7 +1,6 @@
 -- `reads`: the frame, and the records where it holds. Assumes nothing.
 use mathlib.Core.Path.{sym, ◌∙◌, subst}
 use native.Mathlib.Omega.{arith}
-use borrow.Author.Rules.{rules}
 use Rattle.base.proofs.RefusalLaws.{refuses_here, answers_next}
 use Rattle.table.specs.Records.{header_rules, record_rules, Framed}
 use Rattle.table.proofs.FrameLaws.{framed}
