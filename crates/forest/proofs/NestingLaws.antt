@@ -169,13 +169,13 @@ module _ {s ends : List ℕ} where
   module _ (holds : RecordsHold s) where
     -- as many as there are bodies around statement i
     pub kept_count : {i o n : ℕ} → i < (header s).statements → Kept s ends o n → owner s i i ≡ o → length (ends_around s i i) ≡ n
-    kept_count {i} b none e = nesting_top s i e
-    kept_count {i} b (inner {j} is outer) e =
-        nesting_inner holds i j b e ∙ ap suc (kept_count (omega (arith, owner_le s i i)) outer refl)
+    kept_count {i = i} b none e = nesting_top s i e
+    kept_count {i = i} b (inner {j} is outer) e =
+        nesting_inner holds i j b e ∙ ap suc (kept_count {i = j} (omega (arith, owner_le s i i)) outer refl)
 
     -- bodies end inside the table
     pub end_inside_all : {i o n : ℕ} → i < (header s).statements → Kept s ends o n → owner s i i ≡ o → second_end s i ≤ (header s).statements
-    end_inside_all {i} b none e = omega (arith, bodies_inside holds i b, block_end-is s i, outermost_end s i e)
-    end_inside_all {i} b (inner {j} is outer) e =
+    end_inside_all {i = i} b none e = omega (arith, bodies_inside holds i b, block_end-is s i, outermost_end s i e)
+    end_inside_all {i = i} b (inner {j} is outer) e =
         let below : j < i = omega (arith, owner_le s i i) in
-        le_trans (inner_inside holds j i below b (owner_holds s i i j e)) (end_inside_all (omega arith) outer refl)
+        le_trans (inner_inside holds j i below b (owner_holds s i i j e)) (end_inside_all {i = j} (omega arith) outer refl)

@@ -19,7 +19,7 @@ start s = lent s.args.table.now s.args.state.now s.args.log.now s.args.count s.a
 
 pub returns-then-out-ne5 : goal.returns-then-out-ne5
 returns-then-out-ne5 c =
-    let s = c.before.before.before.before.before in
+    let s = c.before.before.before.before.before.before in
     let other : length s.args.out.now ≡ 5 → ⊥ = omega (arith, c.if-out-ne5.true) in
     call_refuses (start s) s.args.out.now other
 
@@ -37,6 +37,6 @@ bounds-out-4 c = simp length-set (omega arith)
 
 pub returns : goal.returns
 returns c =
-    let s = c.before.before.before.before.before.before.before.before.before.before.before.before.before.before.before in
+    let s = c.before.before.before.before.before.before.before.before.before.before.before.before.before.before.before.before in
     let five : length s.args.out.now ≡ 5 = omega (arith, c.if-out-ne5.false) in
     call_runs (start s) s.args.out.now five c.run-r.ensures c.before.before.code_of_lem.ensures c.place_of-place.ensures

@@ -22,7 +22,7 @@ returns-then-r-ne-VAR c =
 pub variable-v-requires : goal.variable-v-requires
 variable-v-requires c =
     let is : c.args.r.op ≡ 1 = omega arith in
-    (c.requires.framed, var_counted c.requires.framed c.requires.records_hold c.requires.i_lt_expressions c.requires.r_value is)
+    record { framed = c.requires.framed; i_lt_variables = var_counted c.requires.framed c.requires.records_hold c.requires.i_lt_expressions c.requires.r_value is }
 
 pub returns-then-v-ne-ROLE_LET : goal.returns-then-v-ne-ROLE_LET
 returns-then-v-ne-ROLE_LET c =

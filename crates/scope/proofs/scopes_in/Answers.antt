@@ -21,7 +21,7 @@ pub expression-r-requires : goal.expression-r-requires
 expression-r-requires c =
     let all = ap (λ (h : Header). h.expressions) c.requires.framed.is in
     let most = c.loop-i.invariant.0 in
-    (c.requires.framed, omega arith)
+    record { framed = c.requires.framed; i_lt_expressions = omega arith }
 
 pub in_scope-requires : goal.in_scope-requires
 in_scope-requires c =

@@ -38,18 +38,18 @@ store-requires-in-Three-3 c =
 
 pub returns-in-One : goal.returns-in-One
 returns-in-One c =
-    done c.before.before.before.before.before.before c.in-One.is
+    done c.before.before.before.before.before.before.before c.in-One.is
     c.store.ensures
 
 pub returns-in-Two : goal.returns-in-Two
 returns-in-Two c =
-    let s = c.before.before.before.before.before.before.before.before.before.before in
+    let s = c.before.before.before.before.before.before.before.before.before.before.before in
     done s c.in-Two.is
     (stored_then c.store-in-Two.ensures c.store-in-Two-2.ensures)
 
 pub returns-in-Three : goal.returns-in-Three
 returns-in-Three c =
-    let s = c.before.before.before.before.before.before.before.before.before.before.before.before.before.before in
+    let s = c.before.before.before.before.before.before.before.before.before.before.before.before.before.before.before in
     let first = c.store-in-Three.ensures in
     done s c.in-Three.is
     (stored_then first (stored_then c.store-in-Three-2.ensures c.store-in-Three-3.ensures))
@@ -64,4 +64,4 @@ pub store-requires-in-Three : goal.store-requires-in-Three
 store-requires-in-Three c = first_below (below_case c.in-Three.is c.requires)
 
 pub returns-in-Leaf : goal.returns-in-Leaf
-returns-in-Leaf c = done c.before.before c.in-Leaf.is stored_none
+returns-in-Leaf c = done c.before.before.before c.in-Leaf.is stored_none

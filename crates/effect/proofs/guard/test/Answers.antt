@@ -5,7 +5,9 @@ use Rattle.effect.proofs.LeavingLaws.{tested_by, test_leaves}
 use Rattle.effect.proofs.guard.test.Goals as goal
 
 pub whole-v-requires : goal.whole-v-requires
-whole-v-requires c = let p = c.requires in (p.0, p.1)
+whole-v-requires c =
+    let p = c.requires in
+    record { ready = p.0; i_bound = p.1 }
 
 pub returns-in-Of : goal.returns-in-Of
 returns-in-Of c =

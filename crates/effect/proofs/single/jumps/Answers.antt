@@ -7,7 +7,7 @@ use Rattle.effect.proofs.single.jumps.Goals as goal
 pub whole-v-requires : goal.whole-v-requires
 whole-v-requires c =
     let p = c.requires in
-    (ready p.0, jump_asks p.0 p.1.0 p.1.1.0 p.1.1.1)
+    record { ready = ready p.0; i_bound = jump_asks p.0 p.1.0 p.1.1.0 p.1.1.1 }
 
 pub returns-in-Of : goal.returns-in-Of
 returns-in-Of c =

@@ -7,7 +7,7 @@ use Rattle.effect.proofs.single.moves.Goals as goal
 pub whole-v-requires : goal.whole-v-requires
 whole-v-requires c =
     let p = c.requires in
-    (ready p.0, (move_asks p.0 p.1.0 p.1.1.0 p.1.1.1).0)
+    record { ready = ready p.0; i_bound = (move_asks p.0 p.1.0 p.1.1.0 p.1.1.1).0 }
 
 pub write-requires : goal.write-requires
 write-requires c =

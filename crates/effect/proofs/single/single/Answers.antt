@@ -16,7 +16,7 @@ jumps-requires c =
 pub returns-in_default : goal.returns-in_default
 returns-in_default c =
     let p = c.requires in
-    passes p.0 p.1.0 p.1.1.0 c.args.ticks c.in-1.rest.0.1 c.in-1.rest.1 p.1.1.1.0 p.1.1.1.1
+    passes p.0 p.1.0 p.1.1.0 c.args.ticks c.in_default.in_default-own.rest.0.1 c.in_default.in_default-own.rest.1 p.1.1.1.0 p.1.1.1.1
     c.goes_on.ensures
 
 pub returns-in-1 : goal.returns-in-1

@@ -25,22 +25,22 @@ done s o {r} e = subst (λ (o : Operands). r ≡ largest (depthsOf s o)) (sym e)
 
 pub returns-in-Leaf : goal.returns-in-Leaf
 unfolding largest
-returns-in-Leaf c = done c.before.before _ c.in-Leaf.is refl
+returns-in-Leaf c = done c.before.before.before _ c.in-Leaf.is refl
 
 pub returns-in-One : goal.returns-in-One
 unfolding largest
-returns-in-One c = done c.before.before.before _ c.in-One.is (c.kept.ensures ∙ sym (max-zero _))
+returns-in-One c = done c.before.before.before.before _ c.in-One.is (c.kept.ensures ∙ sym (max-zero _))
 
 pub returns-in-Two : goal.returns-in-Two
 unfolding largest
 returns-in-Two c =
-    done c.before.before.before.before.before _ c.in-Two.is
+    done c.before.before.before.before.before.before _ c.in-Two.is
     (c.larger.ensures ∙ ap₂ max c.kept-in-Two.ensures (c.kept-in-Two-2.ensures ∙ sym (max-zero _)))
 
 pub returns-in-Three : goal.returns-in-Three
 unfolding largest
 returns-in-Three c =
-    done c.before.before.before.before.before.before.before _ c.in-Three.is
+    done c.before.before.before.before.before.before.before.before _ c.in-Three.is
     (c.larger-in-Three-2.ensures
     ∙ ap₂ max c.kept-in-Three.ensures
     (c.larger-in-Three.ensures ∙ ap₂ max c.kept-in-Three-2.ensures (c.kept-in-Three-3.ensures ∙ sym (max-zero _))))

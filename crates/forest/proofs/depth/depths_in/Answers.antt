@@ -15,7 +15,7 @@ use Rattle.forest.proofs.depth.depths_in.Tie
 use Rattle.forest.proofs.depth.depths_in.Reads
 
 abbrev After-deepest-d : Type 0
-After-deepest-d = Lts.After-deepest Tie.the-claims Reads.Pre Reads.Post Tie.handed_clauses
+After-deepest-d = Lts.After-deepest Tie.the-claims Reads.Pre Reads.Post goal.the-invariant-loop-i goal.the-decreases-loop-i Tie.handed_clauses
 
 pub deepest-d-requires : goal.deepest-d-requires
 deepest-d-requires c =
@@ -36,18 +36,17 @@ depth_is c =
 
 pub returns-then-d-ge-MOST_DEPTH : goal.returns-then-d-ge-MOST_DEPTH
 returns-then-d-ge-MOST_DEPTH c =
-    let s = c.before.before.before.before.before.before.before.before.before.before in
     let l = c.loop-i in
     let inside = c.loop-i-test.true in
-    let e = depth_is c.before in
-    sym (too_deep s.args.s.now s.args.h s.pre.0.is l.i l.invariant.2 inside (omega arith))
+    let e = depth_is c.before.before in
+    sym (too_deep c.args.s.now c.args.h c.requires.framed.is l.i l.invariant.2 inside (omega arith))
 
 pub loop-i-preserved : goal.loop-i-preserved
 loop-i-preserved c =
     let l = c.loop-i in (
       omega arith,
       length-set l.depths l.i _ ∙ l.invariant.1,
-      keep l.i (c.deepest-d.result + 1) l.invariant.2 (omega arith) (depth_is c.before) (omega arith),
+      keep l.i (c.deepest-d.result + 1) l.invariant.2 (omega arith) (depth_is c.before.before) (omega arith),
     )
 
 pub returns : goal.returns

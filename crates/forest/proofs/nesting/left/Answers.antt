@@ -7,11 +7,7 @@ use native.Mathlib.Omega.{arith}
 use lib.ListN.{get_or}
 use borrow.Author.Rules.{rules}
 use Rattle.forest.proofs.nesting.left.Goals as goal
-
--- what is known when all but the first r ends are dropped
-record Dropped (ends : List ℕ) (n i r : ℕ) : Type 0 where
-  among : r ≤ n
-  reached : (k : ℕ) → r ≤ k → k < n → get_or ends k 0 ≤ i
+use Rattle.forest.proofs.nesting.left.Invariants.{Dropped}
 
 pub loop-r-init : goal.loop-r-init
 loop-r-init c = record { among = omega arith; reached = λ k h l. absurd (omega arith) }

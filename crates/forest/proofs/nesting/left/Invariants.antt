@@ -8,6 +8,11 @@ use lib.ListN.{get_or}
 use borrow.Author.Rules.{rules}
 use Rattle.forest.proofs.nesting.left.Given as goal
 
+-- what is known when all but the first r ends are dropped
+pub record Dropped (ends : List ℕ) (n i r : ℕ) : Type 0 where
+  pub among : r ≤ n
+  pub reached : (k : ℕ) → r ≤ k → k < n → get_or ends k 0 ≤ i
+
 abbrev pub invariant-loop-r : goal.invariant-loop-r
 invariant-loop-r l = Dropped l.ends l.n l.i l.r
 

@@ -18,23 +18,19 @@ use Rattle.blocks.specs.Owners.{owner}
 use Rattle.forest.specs.Forest.{nesting, nesting_rule}
 use Rattle.forest.proofs.NestingLaws.{Kept, none, kept_left, kept_more, kept_count, end_inside_all}
 use Rattle.forest.proofs.nesting.nestings_ok.Goals as goal
+use Rattle.forest.proofs.nesting.nestings_ok.Invariants.{Passed}
 use Rattle.forest.proofs.nesting.nestings_ok.Lts
 use Rattle.forest.proofs.nesting.nestings_ok.Tie
 use Rattle.forest.proofs.nesting.nestings_ok.Reads
 
-abbrev Start : Type 0
-Start = Lts.Start Tie.the-claims Reads.Pre Reads.Post Tie.handed_clauses
+abbrev After-left-around : Type 0
+After-left-around = Lts.After-left Tie.the-claims Reads.Pre Reads.Post goal.the-invariant-loop-i goal.the-decreases-loop-i Tie.handed_clauses
 
--- what is known when the first i statements are passed
-record Passed (s ends : List ℕ) (count n i : ℕ) : Type 0 where
-  reached : i ≤ count
-  room : length ends ≡ 32
-  few : n ≤ 32
-  kept : Kept s ends i n
-  hold : HoldsBelow (nesting_rule s).holds i
+abbrev Start : Type 0
+Start = Lts.Start Tie.the-claims Reads.Pre Reads.Post goal.the-invariant-loop-i goal.the-decreases-loop-i Tie.handed_clauses
 
 -- the header is the table's
-counted : (s : Start → s.args.h.statements ≡ (header s.args.s.now).statements
+counted : (s : Start) → s.args.h.statements ≡ (header s.args.s.now).statements
 counted s = ap (λ (h : Header). h.statements) s.requires.framed.is
 
 pub loop-i-init : goal.loop-i-init
@@ -50,7 +46,7 @@ record Here (s ends : List ℕ) (i n : ℕ) : Type 0 where
   nested : nesting s i ≡ suc n
   ends_by : second_end s i ≤ (header s).statements
 
-here : (c : goal.After-left-around) → Here c.args.s.now c.loop-i.ends c.loop-i.i c.left-around.result
+here : (c : After-left-around) → Here c.args.s.now c.loop-i.ends c.loop-i.i c.left-around.result
 unfolding nesting
 here c =
     let s = c.before.before.before.before.before.before in
@@ -72,16 +68,16 @@ unfolding nesting_rule
 returns-then-nesting-gt-MOST_NESTING c =
     let t = c.args.s.now in
     let i = c.loop-i.i in
-    let deep : 32 < nesting t i = omega (arith, (here c.before).nested, c.if-nesting-gt-MOST_NESTING.true) in
-    sym (one_rule_refused (nesting_rule t) i (here c.before).inside c.loop-i.invariant.hold (lt-leb (nesting t i) 32 deep))
+    let deep : 32 < nesting t i = omega (arith, (here c.before.before).nested, c.if-nesting-gt-MOST_NESTING.true) in
+    sym (one_rule_refused (nesting_rule t) i (here c.before.before).inside c.loop-i.invariant.hold (lt-leb (nesting t i) 32 deep))
 
 pub second_end-requires : goal.second_end-requires
 second_end-requires c = record { framed = c.requires.framed; j_lt_statements = c.loop-i-test.true }
 
 pub overflow_cast-ends : goal.overflow_cast-ends
 overflow_cast-ends c =
-    let s = c.before.before.before.before.before.before.before.before in
-    record { fits = omega (arith, c.second_end.ensures, (here c.before.before).ends_by, counted s, s.requires.framed.statements) }
+    let s = c.before.before.before.before.before.before.before.before.before in
+    record { fits = omega (arith, c.second_end.ensures, (here c.before.before.before).ends_by, counted s, s.requires.framed.statements) }
 
 pub bounds-ends-around : goal.bounds-ends-around
 bounds-ends-around c = omega (arith, c.if-nesting-gt-MOST_NESTING.false)
@@ -93,7 +89,7 @@ loop-i-preserved c =
     let i = c.loop-i.i in
     let inv = c.loop-i.invariant in
     let left = c.if-nesting-gt-MOST_NESTING.false in
-    let at = here c.before.before in
+    let at = here c.before.before.before in
     let fits : nesting t i ≤ 32 = omega (arith, at.nested, left) in
     record {
       reached = omega (arith, c.loop-i-test.true);
@@ -106,7 +102,7 @@ loop-i-preserved c =
 pub returns : goal.returns
 unfolding nesting_rule
 returns c =
-    let s = c.before.before.before.before in
+    let s = c.before.before.before.before.before in
     sym
     (one_rule_accepted (nesting_rule s.args.s.now)
     (λ i h. c.loop-i.invariant.hold i (omega (arith, h, counted s, c.loop-i-test.false))))
@@ -115,4 +111,4 @@ pub slice_bounds-left-end : goal.slice_bounds-left-end
 slice_bounds-left-end c = sym c.loop-i.invariant.room
 
 pub overflow_cast-result : goal.overflow_cast-result
-overflow_cast-result c = cast-place c
+overflow_cast-result c = record { fits = omega (arith, c.loop-i-test.true, c.requires.framed.statements) }

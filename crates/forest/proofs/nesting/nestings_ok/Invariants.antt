@@ -19,6 +19,14 @@ use Rattle.forest.specs.Forest.{nesting, nesting_rule}
 use Rattle.forest.proofs.NestingLaws.{Kept, none, kept_left, kept_more, kept_count, end_inside_all}
 use Rattle.forest.proofs.nesting.nestings_ok.Given as goal
 
+-- what is known when the first i statements are passed
+pub record Passed (s ends : List ℕ) (count n i : ℕ) : Type 0 where
+  pub reached : i ≤ count
+  pub room : length ends ≡ 32
+  pub few : n ≤ 32
+  pub kept : Kept s ends i n
+  pub hold : HoldsBelow (nesting_rule s).holds i
+
 abbrev pub invariant-loop-i : goal.invariant-loop-i
 invariant-loop-i l = Passed l.s l.ends l.count l.kept l.i
 

@@ -7,10 +7,16 @@ use Rattle.forest.specs.Forest.{expressions_of}
 use Rattle.forest.proofs.CountLaws.{SoFar, none_yet, Turn, turn, all_counted}
 use Rattle.forest.proofs.OperandLaws.{expressions_named, expressions_below}
 use Rattle.forest.proofs.uses.count_statements.Goals as goal
+use Rattle.forest.proofs.uses.count_statements.Lts
+use Rattle.forest.proofs.uses.count_statements.Tie
+use Rattle.forest.proofs.uses.count_statements.Reads
 
-this-turn : (c : goal.After-of_statement) → let l = c.loop-i in
+abbrev After-of_statement : Type 0
+After-of_statement = Lts.After-of_statement Tie.the-claims Reads.Pre Reads.Post goal.the-invariant-loop-i goal.the-decreases-loop-i Tie.handed_clauses
+
+this_turn : (c : After-of_statement) → let l = c.loop-i in
     Turn (expressions_of c.args.s.now) (3 * most_expressions) c.args.counts.now l.counts l.i c.of_statement.result
-this-turn c =
+this_turn c =
     let l = c.loop-i in
     let most = c.requires.framed.statements in
     let named = expressions_named c.args.s.now l.i c.of_statement.ensures c.statement.ensures in
@@ -22,11 +28,11 @@ loop-i-init c = (omega arith, none_yet c.requires.counters)
 
 pub note_all-requires : goal.note_all-requires
 note_all-requires c =
-    let both = (this-turn c).asks in
+    let both = (this_turn c.before).asks in
     record { all_below = both.0; counters = both.1 }
 
 pub loop-i-preserved : goal.loop-i-preserved
-loop-i-preserved c = (omega arith, (this-turn c.before.before.before).on c.note_all.ensures)
+loop-i-preserved c = (omega arith, (this_turn c.before.before.before.before).on c.note_all.ensures)
 
 pub returns : goal.returns
 returns c = all_counted c.loop-i.invariant.1 (omega arith)

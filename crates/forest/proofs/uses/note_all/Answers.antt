@@ -33,16 +33,17 @@ done s {last = last} e = subst (λ (o : Operands). Counted s.args.counts.now las
 pub note-requires-in-Three-3 : goal.note-requires-in-Three-3
 note-requires-in-Three-3 c =
     let both = counted_then c.note-in-Three.ensures c.note-in-Three-2.ensures in
-    room c.before.before.before.before.before.before.before.before.before.before.before c.in-Three.is (λ b. rest_below (rest_below b)) both (omega arith)
+    let both = room c.before.before.before.before.before.before.before.before.before.before.before c.in-Three.is (λ b. rest_below (rest_below b)) both (omega arith) in
+    record { k_in_bounds = both.0; counters = both.1 }
 
 pub returns-in-Two : goal.returns-in-Two
 returns-in-Two c =
-    done c.before.before.before.before.before.before.before.before.before.before c.in-Two.is (counted_then c.note-in-Two.ensures c.note-in-Two-2.ensures)
+    done c.before.before.before.before.before.before.before.before.before.before.before c.in-Two.is (counted_then c.note-in-Two.ensures c.note-in-Two-2.ensures)
 
 pub returns-in-Three : goal.returns-in-Three
 returns-in-Three c =
     let both = counted_then c.note-in-Three-2.ensures c.note-in-Three-3.ensures in
-    done c.before.before.before.before.before.before.before.before.before.before.before.before.before.before c.in-Three.is (counted_then c.note-in-Three.ensures both)
+    done c.before.before.before.before.before.before.before.before.before.before.before.before.before.before.before c.in-Three.is (counted_then c.note-in-Three.ensures both)
 
 pub note-requires : goal.note-requires
 note-requires c =
@@ -50,19 +51,27 @@ note-requires c =
     record { k_in_bounds = both.0; counters = both.1 }
 
 pub note-requires-in-Two : goal.note-requires-in-Two
-note-requires-in-Two c = room c.before.before.before c.in-Two.is (λ b. b) counted_none (omega arith)
+note-requires-in-Two c =
+    let both = room c.before.before.before c.in-Two.is (λ b. b) counted_none (omega arith) in
+    record { k_in_bounds = both.0; counters = both.1 }
 
 pub note-requires-in-Two-2 : goal.note-requires-in-Two-2
-note-requires-in-Two-2 c = room c.before.before.before.before.before.before.before c.in-Two.is rest_below c.note-in-Two.ensures (omega arith)
+note-requires-in-Two-2 c =
+    let both = room c.before.before.before.before.before.before.before c.in-Two.is rest_below c.note-in-Two.ensures (omega arith) in
+    record { k_in_bounds = both.0; counters = both.1 }
 
 pub note-requires-in-Three : goal.note-requires-in-Three
-note-requires-in-Three c = room c.before.before.before c.in-Three.is (λ b. b) counted_none (omega arith)
+note-requires-in-Three c =
+    let both = room c.before.before.before c.in-Three.is (λ b. b) counted_none (omega arith) in
+    record { k_in_bounds = both.0; counters = both.1 }
 
 pub note-requires-in-Three-2 : goal.note-requires-in-Three-2
-note-requires-in-Three-2 c = room c.before.before.before.before.before.before.before c.in-Three.is rest_below c.note-in-Three.ensures (omega arith)
+note-requires-in-Three-2 c =
+    let both = room c.before.before.before.before.before.before.before c.in-Three.is rest_below c.note-in-Three.ensures (omega arith) in
+    record { k_in_bounds = both.0; counters = both.1 }
 
 pub returns-in-Leaf : goal.returns-in-Leaf
-returns-in-Leaf c = done c.before.before c.in-Leaf.is counted_none
+returns-in-Leaf c = done c.before.before.before c.in-Leaf.is counted_none
 
 pub returns-in-One : goal.returns-in-One
-returns-in-One c = done c.before.before.before.before.before.before c.in-One.is c.note.ensures
+returns-in-One c = done c.before.before.before.before.before.before.before c.in-One.is c.note.ensures

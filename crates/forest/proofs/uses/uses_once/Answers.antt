@@ -5,14 +5,10 @@ use Rattle.forest.proofs.CountLaws.{zeros_of}
 use Rattle.forest.proofs.uses.uses_once.Goals as goal
 
 pub uses_in-requires : goal.uses_in-requires
-uses_in-requires c =
-    let both = search (rules, zeros_of 64) in
-    record { framed = both.0; records_hold = both.1.0; expressions_in_bounds = both.1.1.0; counters = both.1.1.1 }
+uses_in-requires c = search (rules, zeros_of 64)
 
 pub uses_in-requires-then-h-le1024 : goal.uses_in-requires-then-h-le1024
 uses_in-requires-then-h-le1024 c = search (rules, zeros_of 1024)
 
 pub uses_in-requires-2 : goal.uses_in-requires-2
-uses_in-requires-2 c =
-    let both = search (rules, zeros_of most_expressions) in
-    record { framed = both.0; records_hold = both.1.0; expressions_in_bounds = both.1.1.0; counters = both.1.1.1 }
+uses_in-requires-2 c = search (rules, zeros_of most_expressions)

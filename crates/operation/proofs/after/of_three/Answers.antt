@@ -64,7 +64,7 @@ returns-in-10 c =
 pub returns-in_default : goal.returns-in_default
 unfolding three_value threes
 returns-in_default c =
-    let s = c.before.before in
+    let s = c.before.before.before in
     let a = s.args in
     let none : asked s ≡ value no_value (entries a.log.now a.count) =
     rw (numbered_other (Unit {0}) (λ room L r x y z. value no_value L) threes a.r.op c.in-4.rest) refl in

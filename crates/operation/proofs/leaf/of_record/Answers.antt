@@ -28,4 +28,4 @@ returns-in-9 c = rw c.in-9.is (ap (λ (t : ValueType). Is (Unknown t)) c.unknown
 
 pub returns-in_default : goal.returns-in_default
 unfolding at_once leaves
-returns-in_default c = rw (numbered_other (Unit {0}) (λ Γ σ r ρ. Deeper) leaves c.args.r.op c.in-1.rest) refl
+returns-in_default c = rw (numbered_other (Unit {0}) (λ Γ σ r ρ. Deeper) leaves c.args.r.op c.in_default.in_default-own.rest) refl

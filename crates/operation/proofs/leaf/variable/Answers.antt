@@ -52,13 +52,13 @@ read-requires c =
 
 pub returns-in-Bound : goal.returns-in-Bound
 returns-in-Bound c =
-    let s = c.before.before.before.before in
-    met s (searched c.before) c.in-Bound.is ∙ sym (look_found (bindings_of s.args.bindings) (free s) s.args.x)
+    let s = c.before.before.before.before.before in
+    met s (searched c.before.before) c.in-Bound.is ∙ sym (look_found (bindings_of s.args.bindings) (free s) s.args.x)
 
 pub returns-in-Free : goal.returns-in-Free
 returns-in-Free c =
-    let s = c.before.before.before.before.before.before in
+    let s = c.before.before.before.before.before.before.before in
     c.read.ensures
     ∙ ap (λ (t : ValueType). in_state s.args.state.now t s.args.x) c.type_of.ensures
-    ∙ met s (searched c.before.before.before) c.in-Free.is
+    ∙ met s (searched c.before.before.before.before) c.in-Free.is
     ∙ sym (look_found (bindings_of s.args.bindings) (free s) s.args.x)

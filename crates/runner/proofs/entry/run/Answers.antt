@@ -35,7 +35,7 @@ run_accepted-requires c =
 
 pub returns-in-Refused : goal.returns-in-Refused
 returns-in-Refused c =
-    let s = c.before.before.before.before.before.before in
+    let s = c.before.before.before.before.before.before.before in
     table_refused (start s) c.check.ensures c.in-Refused.is c.refused.ensures
 
 pub returns-in-Refused-starts_ok : goal.returns-in-Refused-starts_ok

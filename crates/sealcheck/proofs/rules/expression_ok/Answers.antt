@@ -7,12 +7,15 @@ use Rattle.typecheck.proofs.NamedLaws.{asked_by_head}
 use Rattle.sealcheck.proofs.rules.expression_ok.Goals as goal
 
 pub label_at-requires : goal.label_at-requires
+unfolding expression_seal_rule
 label_at-requires c =
     let both = asked_by_head c.requires in
     record { framed = both.0; records_hold = both.1.0; i_bound = both.1.1 }
 
 pub returns-in-Of : goal.returns-in-Of
+unfolding expression_seal_rule
 returns-in-Of c = ap has_label (sym c.in-Of.is ∙ c.label_at.ensures)
 
 pub returns-in-Leaks : goal.returns-in-Leaks
+unfolding expression_seal_rule
 returns-in-Leaks c = ap has_label (sym c.in-Leaks.is ∙ c.label_at.ensures)

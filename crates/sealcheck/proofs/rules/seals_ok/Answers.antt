@@ -10,16 +10,20 @@ use Rattle.sealcheck.proofs.VerdictLaws.{seals_accepted}
 use Rattle.sealcheck.proofs.rules.seals_ok.Goals as goal
 
 pub loop-i-init : goal.loop-i-init
+unfolding seal_rules statement_seal_rule
 loop-i-init c = none_passed _ (ap (λ (h : Header). h.statements) c.requires.framed.is) refl
 
 pub returns-then-not-statement_ok : goal.returns-then-not-statement_ok
+unfolding seal_rules statement_seal_rule
 returns-then-not-statement_ok c =
     let s = c.args.s.now in
     c.or_refused.ensures (expression_seal_rule s) (statement_seal_rule s) c.lowest_leak.ensures
     (refuses _ c.loop-i.invariant c.loop-i-test.true c.statement_ok.ensures c.if-not-statement_ok.true)
 
 pub loop-i-preserved : goal.loop-i-preserved
+unfolding seal_rules statement_seal_rule
 loop-i-preserved c = one_passed _ c.loop-i.invariant c.loop-i-test.true c.statement_ok.ensures c.if-not-statement_ok.false
 
 pub returns : goal.returns
+unfolding seal_rules statement_seal_rule
 returns c = let pre = c.requires in seals_accepted pre.1.0 pre.1.1 (all_passed _ c.loop-i.invariant c.loop-i-test.false)

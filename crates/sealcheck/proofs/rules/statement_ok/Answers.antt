@@ -19,43 +19,59 @@ read : (c : After-statement-r) → let a = c.args in StatementRead a.s.now a.h a
 read c = record { asked = c.requires; is = c.statement-r.ensures }
 
 pub is_sealed-requires : goal.is_sealed-requires
+unfolding statement_rows statement_seals statement_clean
 is_sealed-requires c =
-    let both = moved_to (read c.before) c.in-1.is in
+    let both = moved_to (read c.before.before) c.in-1.is in
     record { framed = both.0; x_lt_variables = both.1 }
 
 pub label_at-requires : goal.label_at-requires
+unfolding statement_rows statement_seals statement_clean
 label_at-requires c =
-    let both = moved (read c.before.before) c.in-1.is in
+    let both = moved (read c.before.before.before) c.in-1.is in
     record { framed = both.0; records_hold = both.1.0; i_bound = both.1.1 }
 
 pub label_at-requires-in-2 : goal.label_at-requires-in-2
-label_at-requires-in-2 c = first_asked (read c.before) 2 refl c.in-2.is
+unfolding statement_rows statement_seals statement_clean
+label_at-requires-in-2 c =
+    let both = first_asked (read c.before.before) 2 refl c.in-2.is in
+    record { framed = both.0; records_hold = both.1.0; i_bound = both.1.1 }
 
 pub label_at-requires-in-5 : goal.label_at-requires-in-5
-label_at-requires-in-5 c = first_asked (read c.before) 5 refl c.in-5.is
+unfolding statement_rows statement_seals statement_clean
+label_at-requires-in-5 c =
+    let both = first_asked (read c.before.before) 5 refl c.in-5.is in
+    record { framed = both.0; records_hold = both.1.0; i_bound = both.1.1 }
 
 pub label_at-requires-in-6 : goal.label_at-requires-in-6
-label_at-requires-in-6 c = first_asked (read c.before) 6 refl c.in-6.is
+unfolding statement_rows statement_seals statement_clean
+label_at-requires-in-6 c =
+    let both = first_asked (read c.before.before) 6 refl c.in-6.is in
+    record { framed = both.0; records_hold = both.1.0; i_bound = both.1.1 }
 
 pub returns-in-1 : goal.returns-in-1
+unfolding statement_rows statement_seals statement_clean
 returns-in-1 c =
-    under (read c.before.before.before.before) asks_labels 1 c.in-1.is
+    under (read c.before.before.before.before.before) asks_labels 1 c.in-1.is
     (c.may_go.ensures ∙ ap₂ may_go c.is_sealed.ensures c.label_at.ensures)
 
 pub returns-in-2 : goal.returns-in-2
+unfolding statement_rows statement_seals statement_clean
 returns-in-2 c =
-    under (read c.before.before.before) asks_labels 2 c.in-2.is
+    under (read c.before.before.before.before) asks_labels 2 c.in-2.is
     (c.may_go-in-2.ensures ∙ ap (may_go false) c.label_at-in-2.ensures)
 
 pub returns-in-5 : goal.returns-in-5
+unfolding statement_rows statement_seals statement_clean
 returns-in-5 c =
-    under (read c.before.before.before) asks_labels 5 c.in-5.is
+    under (read c.before.before.before.before) asks_labels 5 c.in-5.is
     (c.may_go-in-5.ensures ∙ ap (may_go false) c.label_at-in-5.ensures)
 
 pub returns-in-6 : goal.returns-in-6
+unfolding statement_rows statement_seals statement_clean
 returns-in-6 c =
-    under (read c.before.before.before) asks_labels 6 c.in-6.is
+    under (read c.before.before.before.before) asks_labels 6 c.in-6.is
     (c.may_go-in-6.ensures ∙ ap (may_go false) c.label_at-in-6.ensures)
 
 pub returns-in_default : goal.returns-in_default
-returns-in_default c = let m = read c.before in under m asks_labels _ refl (asks_nothing m c.in-1.rest)
+unfolding statement_rows statement_seals statement_clean
+returns-in_default c = let m = read c.before.before in under m asks_labels _ refl (asks_nothing m c.in_default.in_default-own.rest)

@@ -8,9 +8,7 @@ use Rattle.sealing.specs.ByOp.{leaves, leaf_label}
 use Rattle.sealing.proofs.by_op.leaf.Goals as goal
 
 pub is_sealed-requires : goal.is_sealed-requires
-is_sealed-requires c =
-    let both = search (rules, c.requires.a_lt_variables c.in-1.is) in
-    record { framed = both.0; x_lt_variables = both.1 }
+is_sealed-requires c = search (rules, c.requires.a_lt_variables c.in-1.is)
 
 pub returns-in-1 : goal.returns-in-1
 unfolding leaf_label leaves
@@ -18,4 +16,4 @@ returns-in-1 c = rw c.in-1.is (ap Of c.is_sealed.ensures)
 
 pub returns-in_default : goal.returns-in_default
 unfolding leaf_label leaves
-returns-in_default c = rw (numbered_other (Unit {0}) (λ Γ r. Of false) leaves c.args.r.op c.in-1.rest) refl
+returns-in_default c = rw (numbered_other (Unit {0}) (λ Γ r. Of false) leaves c.args.r.op c.in_default.in_default-own.rest) refl

@@ -7,9 +7,7 @@ use Rattle.sealing.specs.ByOp.{twos, two_label}
 use Rattle.sealing.proofs.by_op.two.Goals as goal
 
 pub is_sealed-requires : goal.is_sealed-requires
-is_sealed-requires c =
-    let both = search (rules, c.requires.a_lt_variables c.in-8.is) in
-    record { framed = both.0; x_lt_variables = both.1 }
+is_sealed-requires c = search (rules, c.requires.a_lt_variables c.in-8.is)
 
 pub returns-in-3 : goal.returns-in-3
 unfolding two_label twos

@@ -11,16 +11,13 @@ use Rattle.base.proofs.PassedLaws.{one_passed, refuses, accepts}
 use Rattle.memory.specs.Log.{entries, newest_ok}
 use Rattle.running.specs.Start.{entry_rule}
 use Rattle.starts.proofs.entries.entries_ok.Goals as goal
+use Rattle.starts.proofs.entries.entries_ok.Invariants.{Passed}
 
 -- the empty log keeps its rules
 empty_holds : (l : List ℕ) → HoldsBelow (λ n. newest_ok (entries l n)) 1
 unfolding newest_ok entries
 empty_holds l zero h = refl
 empty_holds l (suc i) h = absurd (omega arith)
-
-record Passed (l : List ℕ) (last n : ℕ) : Type 0 where
-  least : 1 ≤ n
-  passed : Places.Passed (entry_rule l last) (suc last) n
 
 pub loop-n-init : goal.loop-n-init
 loop-n-init c =

@@ -12,6 +12,10 @@ use Rattle.memory.specs.Log.{entries, newest_ok}
 use Rattle.running.specs.Start.{entry_rule}
 use Rattle.starts.proofs.entries.entries_ok.Given as goal
 
+pub record Passed (l : List ℕ) (last n : ℕ) : Type 0 where
+  pub least : 1 ≤ n
+  pub passed : Places.Passed (entry_rule l last) (suc last) n
+
 abbrev pub invariant-loop-n : goal.invariant-loop-n
 invariant-loop-n l = Passed l.log l.last l.n
 

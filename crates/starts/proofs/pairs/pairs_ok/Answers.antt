@@ -16,10 +16,10 @@ use Rattle.starts.proofs.pairs.pairs_ok.Tie
 use Rattle.starts.proofs.pairs.pairs_ok.Reads
 
 abbrev After-pair_ok : Type 0
-After-pair_ok = Lts.After-pair_ok Tie.the-claims Reads.Pre Reads.Post Tie.handed_clauses
+After-pair_ok = Lts.After-pair_ok Tie.the-claims Reads.Pre Reads.Post goal.the-invariant-loop-i goal.the-decreases-loop-i Tie.handed_clauses
 
 abbrev Start : Type 0
-Start = Lts.Start Tie.the-claims Reads.Pre Reads.Post Tie.handed_clauses
+Start = Lts.Start Tie.the-claims Reads.Pre Reads.Post goal.the-invariant-loop-i goal.the-decreases-loop-i Tie.handed_clauses
 
 abbrev rule : Start → Rule
 rule s = pair_rule s.args.table.now s.args.state.now (entries s.args.log.now s.args.count)
@@ -38,10 +38,10 @@ at-hand c =
     found ∙ ap asked v.ensures
 
 pub returns-then-not-pair_ok : goal.returns-then-not-pair_ok
-returns-then-not-pair_ok c = refuses _ c.loop-i.invariant c.loop-i-test.true (at-hand c.before) c.if-not-pair_ok.true
+returns-then-not-pair_ok c = refuses _ c.loop-i.invariant c.loop-i-test.true (at-hand c.before.before) c.if-not-pair_ok.true
 
 pub loop-i-preserved : goal.loop-i-preserved
-loop-i-preserved c = one_passed _ c.loop-i.invariant c.loop-i-test.true (at-hand c.before) c.if-not-pair_ok.false
+loop-i-preserved c = one_passed _ c.loop-i.invariant c.loop-i-test.true (at-hand c.before.before) c.if-not-pair_ok.false
 
 pub loop-i-init : goal.loop-i-init
 loop-i-init c = none_passed _ (ap (λ (h : Header). h.variables) c.requires.framed.is) refl

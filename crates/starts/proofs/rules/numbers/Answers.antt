@@ -42,20 +42,20 @@ log-fits s a b = and_both (eq-eqb _ _ a) (le-leb _ _ b)
 pub returns-then-state-h : goal.returns-then-state-h
 unfolding numbers_ok
 returns-then-state-h c table budget is =
-    let s = c.before.before.before.before in
+    let s = c.before.before.before.before.before in
     numbers_refused (start s table budget) 0 (omega arith) none (state-test s table is (ne_eqb _ _ c.if-state-h.true))
 
 pub returns-then-log-ne0 : goal.returns-then-log-ne0
 unfolding numbers_ok
 returns-then-log-ne0 c table budget is =
-    let s = c.before.before.before.before.before in
+    let s = c.before.before.before.before.before.before in
     numbers_refused (start s table budget) 1 (omega arith) (one (state-test s table is (eq-eqb _ _ c.if-state-h.false)) none)
     (sym (fails_here _ (ne_eqb _ _ c.if-log-ne0.true)))
 
 pub returns-then-room-gt-MOST_ENTRIES : goal.returns-then-room-gt-MOST_ENTRIES
 unfolding numbers_ok
 returns-then-room-gt-MOST_ENTRIES c table budget is =
-    let s = c.before.before.before.before.before.before in
+    let s = c.before.before.before.before.before.before.before in
     let t = start s table budget in
     let over : most_entries < room_of t = omega (arith, c.if-room-gt-MOST_ENTRIES.true) in
     numbers_refused t 1 (omega arith) (one (state-test s table is (eq-eqb _ _ c.if-state-h.false)) none)
@@ -64,7 +64,7 @@ returns-then-room-gt-MOST_ENTRIES c table budget is =
 pub returns-then-room-count : goal.returns-then-room-count
 unfolding numbers_ok
 returns-then-room-count c table budget is =
-    let s = c.before.before.before.before.before.before.before in
+    let s = c.before.before.before.before.before.before.before.before in
     let t = start s table budget in
     let over : room_of t < t.count = omega (arith, c.if-room-count.true) in
     numbers_refused t 2 (omega arith)
@@ -74,7 +74,7 @@ returns-then-room-count c table budget is =
 pub returns-then-not-fits : goal.returns-then-not-fits
 unfolding numbers_ok
 returns-then-not-fits c table budget is =
-    let s = c.before.before.before.before.before.before.before.before.before in
+    let s = c.before.before.before.before.before.before.before.before.before.before in
     let t = start s table budget in
     numbers_refused t 3 (omega arith)
     (one (state-test s table is (eq-eqb _ _ c.if-state-h.false))
@@ -84,7 +84,7 @@ returns-then-not-fits c table budget is =
 pub returns : goal.returns
 unfolding numbers_ok
 returns c table budget is =
-    let s = c.before.before.before.before.before.before.before.before.before in
+    let s = c.before.before.before.before.before.before.before.before.before.before in
     let t = start s table budget in
     numbers_pass t
     (one (state-test s table is (eq-eqb _ _ c.if-state-h.false))

@@ -19,7 +19,7 @@ use Rattle.starts.proofs.rules.starts_ok.Tie
 use Rattle.starts.proofs.rules.starts_ok.Reads
 
 abbrev Start : Type 0
-Start = Lts.Start Tie.the-claims Reads.Pre Reads.Post
+Start = Lts.Start Tie.the-claims Reads.Pre Reads.Post Tie.handed_clauses
 
 abbrev start : Start → ℕ → Start
 start s budget = lent s.args.table.now s.args.state.now s.args.log.now s.args.count s.args.next budget
@@ -38,7 +38,7 @@ past t = answers_next (numbers_rule t ∷ []) (entry_of t ∷ pairsOf t ∷ [])
 
 pub entries_ok-requires : goal.entries_ok-requires
 entries_ok-requires c =
-    let s = c.before.before.before.before.before in
+    let s = c.before.before.before.before.before.before in
     let fit : Numbers (start s 0) =
     numbers_accepted (start s 0) (c.numbers.ensures s.args.table.now 0 s.requires.is) c.in-Accepted.is in
     let room = fit.room in
@@ -47,7 +47,7 @@ entries_ok-requires c =
 
 pub pairs_ok-requires : goal.pairs_ok-requires
 pairs_ok-requires c =
-    let s = c.before.before.before.before.before.before.before in
+    let s = c.before.before.before.before.before.before.before.before in
     let fit : Numbers (start s 0) =
     numbers_accepted (start s 0) (c.numbers.ensures s.args.table.now 0 s.requires.is) c.in-Accepted.is in
     let count = fit.count in
@@ -56,20 +56,20 @@ pairs_ok-requires c =
 pub returns-in-Refused : goal.returns-in-Refused
 unfolding start_rules
 returns-in-Refused c budget =
-    let s = c.before.before.before.before.before in
+    let s = c.before.before.before.before.before.before in
     let t = start s budget in
     refuses_here (numbers_rule t ∷ []) (entry_of t ∷ pairsOf t ∷ []) (c.numbers.ensures t.table budget s.requires.is) c.in-Refused.is
 
 pub returns-in-Refused-entries_ok : goal.returns-in-Refused-entries_ok
 returns-in-Refused-entries_ok c budget =
-    let s = c.before.before.before.before.before.before.before in
+    let s = c.before.before.before.before.before.before.before.before in
     let t = start s budget in
     past t (c.numbers.ensures t.table budget s.requires.is) c.in-Accepted.is
     (refuses_here (entry_of t ∷ []) (pairsOf t ∷ []) c.entries_ok.ensures c.in-Refused-entries_ok.is)
 
 pub returns-in-Accepted-entries_ok : goal.returns-in-Accepted-entries_ok
 returns-in-Accepted-entries_ok c budget =
-    let s = c.before.before.before.before.before.before.before.before in
+    let s = c.before.before.before.before.before.before.before.before.before in
     let t = start s budget in
     past t (c.numbers.ensures t.table budget s.requires.is) c.in-Accepted.is
     (answers_next (entry_of t ∷ []) (pairsOf t ∷ []) c.entries_ok.ensures c.in-Accepted-entries_ok.is c.pairs_ok.ensures)

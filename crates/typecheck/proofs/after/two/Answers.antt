@@ -21,15 +21,15 @@ done s p q h = h ∙ sym (ap₂ (type_of s) p q)
 
 pub returns-in-Of-f : goal.returns-in-Of-f
 returns-in-Of-f c =
-    done c.before.before.before.before c.in-Of.is
+    done c.before.before.before.before.before c.in-Of.is
     c.in-Of-f.is c.two.ensures
 
 pub returns-in-Untyped-f : goal.returns-in-Untyped-f
 returns-in-Untyped-f c =
-    let s = c.before.before.before in
+    let s = c.before.before.before.before in
     done s c.in-Of.is c.in-Untyped-f.is (sym (two_second s.args.r (context s.args.s.now) _))
 
 pub returns-in-Untyped : goal.returns-in-Untyped
 returns-in-Untyped c =
-    let s = c.before.before in
+    let s = c.before.before.before in
     done s c.in-Untyped.is refl (sym (two_first s.args.r (context s.args.s.now) _))

@@ -20,44 +20,60 @@ read : (c : After-statement-r) → let a = c.args in StatementRead a.s.now a.h a
 read c = record { asked = c.requires; is = c.statement-r.ensures }
 
 pub type_of-requires : goal.type_of-requires
+unfolding statement_rows statement_types statement_typed
 type_of-requires c =
-    let both = moved_to (read c.before) c.in-1.is in
+    let both = moved_to (read c.before.before) c.in-1.is in
     record { framed = both.0; x_lt_variables = both.1 }
 
 pub type_at-requires : goal.type_at-requires
+unfolding statement_rows statement_types statement_typed
 type_at-requires c =
-    let both = moved (read c.before.before) c.in-1.is in
+    let both = moved (read c.before.before.before) c.in-1.is in
     record { framed = both.0; records_hold = both.1.0; i_bound = both.1.1 }
 
 pub type_at-requires-in-2 : goal.type_at-requires-in-2
-type_at-requires-in-2 c = first_asked (read c.before) 2 refl c.in-2.is
+unfolding statement_rows statement_types statement_typed
+type_at-requires-in-2 c =
+    let both = first_asked (read c.before.before) 2 refl c.in-2.is in
+    record { framed = both.0; records_hold = both.1.0; i_bound = both.1.1 }
 
 pub type_at-requires-in-5 : goal.type_at-requires-in-5
-type_at-requires-in-5 c = first_asked (read c.before) 5 refl c.in-5.is
+unfolding statement_rows statement_types statement_typed
+type_at-requires-in-5 c =
+    let both = first_asked (read c.before.before) 5 refl c.in-5.is in
+    record { framed = both.0; records_hold = both.1.0; i_bound = both.1.1 }
 
 pub type_at-requires-in-6 : goal.type_at-requires-in-6
-type_at-requires-in-6 c = first_asked (read c.before) 6 refl c.in-6.is
+unfolding statement_rows statement_types statement_typed
+type_at-requires-in-6 c =
+    let both = first_asked (read c.before.before) 6 refl c.in-6.is in
+    record { framed = both.0; records_hold = both.1.0; i_bound = both.1.1 }
 
 pub returns-in-1 : goal.returns-in-1
+unfolding statement_rows statement_types statement_typed
 returns-in-1 c =
-    under (read c.before.before.before.before) asks_types 1 c.in-1.is
+    under (read c.before.before.before.before.before) asks_types 1 c.in-1.is
     (c.is_type.ensures ∙ ap₂ is_type c.type_of.ensures c.type_at.ensures)
 
 pub returns-in-2 : goal.returns-in-2
+unfolding statement_rows statement_types statement_typed
 returns-in-2 c =
-    let m = read c.before.before.before in
+    let m = read c.before.before.before.before in
     under m asks_types 2 c.in-2.is
     (c.is_type-in-2.ensures ∙ ap₂ is_type (ap (λ (h : Header). Imm h.width) m.asked.0.is) c.type_at-in-2.ensures)
 
 pub returns-in-5 : goal.returns-in-5
+unfolding statement_rows statement_types statement_typed
 returns-in-5 c =
-    under (read c.before.before.before) asks_types 5 c.in-5.is
+    under (read c.before.before.before.before) asks_types 5 c.in-5.is
     (c.is_type-in-5.ensures ∙ ap (is_type (Imm 1)) c.type_at-in-5.ensures)
 
 pub returns-in-6 : goal.returns-in-6
+unfolding statement_rows statement_types statement_typed
 returns-in-6 c =
-    under (read c.before.before.before) asks_types 6 c.in-6.is
+    under (read c.before.before.before.before) asks_types 6 c.in-6.is
     (c.is_type-in-6.ensures ∙ ap (is_type (Imm 1)) c.type_at-in-6.ensures)
 
 pub returns-in_default : goal.returns-in_default
-returns-in_default c = let m = read c.before in under m asks_types _ refl (asks_nothing m c.in-1.rest)
+unfolding statement_rows statement_types statement_typed
+returns-in_default c = let m = read c.before.before in under m asks_types _ refl (asks_nothing m c.in_default.in_default-own.rest)

@@ -10,16 +10,20 @@ use Rattle.typecheck.proofs.VerdictLaws.{types_accepted}
 use Rattle.typecheck.proofs.rules.types_ok.Goals as goal
 
 pub loop-i-init : goal.loop-i-init
+unfolding type_rules statement_type_rule
 loop-i-init c = none_passed _ (ap (λ (h : Header). h.statements) c.requires.framed.is) refl
 
 pub returns-then-not-statement_ok : goal.returns-then-not-statement_ok
+unfolding type_rules statement_type_rule
 returns-then-not-statement_ok c =
     let s = c.args.s.now in
     c.or_refused.ensures (expression_type_rule s) (statement_type_rule s) c.lowest_untyped.ensures
     (refuses _ c.loop-i.invariant c.loop-i-test.true c.statement_ok.ensures c.if-not-statement_ok.true)
 
 pub loop-i-preserved : goal.loop-i-preserved
+unfolding type_rules statement_type_rule
 loop-i-preserved c = one_passed _ c.loop-i.invariant c.loop-i-test.true c.statement_ok.ensures c.if-not-statement_ok.false
 
 pub returns : goal.returns
+unfolding type_rules statement_type_rule
 returns c = let pre = c.requires in types_accepted pre.1.0 pre.1.1 (all_passed _ c.loop-i.invariant c.loop-i-test.false)

@@ -7,9 +7,7 @@ use Rattle.typing.specs.ByOp.{leaves, leaf_type}
 use Rattle.typing.proofs.by_op.leaf.Goals as goal
 
 pub type_of-requires : goal.type_of-requires
-type_of-requires c =
-    let both = search (rules, c.requires.a_lt_variables c.in-1.is) in
-    record { framed = both.0; x_lt_variables = both.1 }
+type_of-requires c = search (rules, c.requires.a_lt_variables c.in-1.is)
 
 pub returns-in-1 : goal.returns-in-1
 unfolding leaf_type leaves
@@ -25,4 +23,4 @@ returns-in-9 c = rw c.in-9.is (ap Of c.unknown.ensures)
 
 pub returns-in_default : goal.returns-in_default
 unfolding leaf_type leaves
-returns-in_default c = rw (numbered_other (Unit {0}) (λ Γ r. Untyped) leaves c.args.r.op c.in-1.rest) refl
+returns-in_default c = rw (numbered_other (Unit {0}) (λ Γ r. Untyped) leaves c.args.r.op c.in_default.in_default-own.rest) refl

@@ -7,9 +7,7 @@ use Rattle.typing.specs.ByOp.{ones, one_type}
 use Rattle.typing.proofs.by_op.one.Goals as goal
 
 pub extract-requires : goal.extract-requires
-extract-requires c =
-    let both = search (rules, c.requires.q_le_p c.in-11.is, c.requires.p_bound c.in-11.is) in
-    record { q_le_p = both.0; p_bound = both.1 }
+extract-requires c = search (rules, c.requires.q_le_p c.in-11.is, c.requires.p_bound c.in-11.is)
 
 pub returns-in-6 : goal.returns-in-6
 unfolding one_type ones

@@ -8,9 +8,7 @@ use Rattle.typing.specs.ByOp.{twos, two_type}
 use Rattle.typing.proofs.by_op.two.Goals as goal
 
 pub type_of-requires : goal.type_of-requires
-type_of-requires c =
-    let both = search (rules, c.requires.a_lt_variables c.in-8.is) in
-    record { framed = both.0; x_lt_variables = both.1 }
+type_of-requires c = search (rules, c.requires.a_lt_variables c.in-8.is)
 
 pub returns-in-3 : goal.returns-in-3
 unfolding two_type twos
