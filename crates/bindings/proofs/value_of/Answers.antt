@@ -24,4 +24,4 @@ unfolding value_held
 returns-in_default c =
     let w = c.args.width in
     let n = c.args.number in
-    rw (numbered_other (Unit {0}) (Unknown (Imm w)) ((1, Word w n) ∷ (3, Memory w n) ∷ (4, Unknown (Mem w)) ∷ []) c.args.kind c.in-1.rest) refl
+    rw (numbered_other (Unit {0}) (Unknown (Imm w)) ((1, Word w n) ∷ (3, Memory w n) ∷ (4, Unknown (Mem w)) ∷ []) c.args.kind c.in_default.in_default-own.rest) refl

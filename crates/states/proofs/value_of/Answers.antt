@@ -22,4 +22,4 @@ unfolding value_of
 returns-in_default c =
     let t = c.args.t in
     let n = c.args.number in
-    rw (numbered_other (Unit {0}) (Unknown t) ((1, Word (size t) n) ∷ (3, Memory (size t) n) ∷ []) c.args.kind c.in-1.rest) refl
+    rw (numbered_other (Unit {0}) (Unknown t) ((1, Word (size t) n) ∷ (3, Memory (size t) n) ∷ []) c.args.kind c.in_default.in_default-own.rest) refl

@@ -30,7 +30,7 @@ returns-in-11 c = rw c.in-11.is c.extract.ensures.is
 
 pub returns-in_default : goal.returns-in_default
 unfolding one_value ones
-returns-in_default c = rw (numbered_other (Unit {0}) (λ r x. no_value) ones c.args.r.op c.in-6.rest) refl
+returns-in_default c = rw (numbered_other (Unit {0}) (λ r x. no_value) ones c.args.r.op c.in_default.in_default-own.rest) refl
 
 pub unary-requires : goal.unary-requires
 unary-requires c = c.requires.sound

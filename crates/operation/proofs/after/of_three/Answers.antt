@@ -67,5 +67,5 @@ returns-in_default c =
     let s = c.before.before.before in
     let a = s.args in
     let none : asked s ≡ value no_value (entries a.log.now a.count) =
-    rw (numbered_other (Unit {0}) (λ room L r x y z. value no_value L) threes a.r.op c.in-4.rest) refl in
+    rw (numbered_other (Unit {0}) (λ room L r x y z. value no_value L) threes a.r.op c.in_default.in_default-own.rest) refl in
     leaves_value s.requires.holds.room none refl

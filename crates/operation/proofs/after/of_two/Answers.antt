@@ -34,4 +34,4 @@ returns-in-12 c = rw c.in-12.is c.concat.ensures.is
 
 pub returns-in_default : goal.returns-in_default
 unfolding two_value twos
-returns-in_default c = rw (numbered_other (Unit {0}) (λ L r x y. no_value) twos c.args.r.op c.in-3.rest) refl
+returns-in_default c = rw (numbered_other (Unit {0}) (λ L r x y. no_value) twos c.args.r.op c.in_default.in_default-own.rest) refl

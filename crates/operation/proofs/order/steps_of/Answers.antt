@@ -43,4 +43,4 @@ returns-in-12 c = rw c.in-12.is refl
 
 pub returns-in_default : goal.returns-in_default
 unfolding steps_of orders
-returns-in_default c = rw (numbered_other (Unit {0}) (λ r. Leaf) orders c.args.r.op c.in-3.rest) refl
+returns-in_default c = rw (numbered_other (Unit {0}) (λ r. Leaf) orders c.args.r.op c.in_default.in_default-own.rest) refl

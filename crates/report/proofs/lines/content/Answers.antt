@@ -26,7 +26,7 @@ pub returns-in_default : goal.returns-in_default
 unfolding content
 returns-in_default c =
     let n = c.args.n in
-    let other = numbered_other (Unit {0}) absent_word ((1, word_word ++ field n) ∷ (2, unknown_word) ∷ (3, memory_word ++ field n) ∷ []) c.args.kind c.in-1.rest in
+    let other = numbered_other (Unit {0}) absent_word ((1, word_word ++ field n) ∷ (2, unknown_word) ∷ (3, memory_word ++ field n) ∷ []) c.args.kind c.in_default.in_default-own.rest in
     subst (λ (t : List ℕ). Adds 28 c.args.out.now c.args.at t c.add-in_default.new.0 c.add-in_default.result) (sym other) (adds_wider c.add-in_default.ensures (omega arith))
 
 pub add-worded-requires : goal.add-worded-requires

@@ -14,5 +14,5 @@ pub returns-in_default : goal.returns-in_default
 unfolding three_label threes
 returns-in_default c =
     let a = c.args in
-    rw (numbered_other (Unit {0}) (λ e f g. either e (either f g)) threes a.r.op c.in-4.rest)
+    rw (numbered_other (Unit {0}) (λ e f g. either e (either f g)) threes a.r.op c.in_default.in_default-own.rest)
     (c.either-in_default.ensures ∙ ap (either a.e) c.either.ensures)

@@ -21,4 +21,4 @@ returns-in-8 c =
 
 pub returns-in_default : goal.returns-in_default
 unfolding two_label twos
-returns-in_default c = rw (numbered_other (Unit {0}) (λ Γ r. either) twos c.args.r.op c.in-3.rest) c.either.ensures
+returns-in_default c = rw (numbered_other (Unit {0}) (λ Γ r. either) twos c.args.r.op c.in_default.in_default-own.rest) c.either.ensures

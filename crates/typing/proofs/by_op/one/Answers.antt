@@ -23,4 +23,4 @@ returns-in-11 c = rw c.in-11.is c.extract.ensures
 
 pub returns-in_default : goal.returns-in_default
 unfolding one_type ones
-returns-in_default c = rw (numbered_other (Unit {0}) (λ r e. Untyped) ones c.args.r.op c.in-6.rest) refl
+returns-in_default c = rw (numbered_other (Unit {0}) (λ r e. Untyped) ones c.args.r.op c.in_default.in_default-own.rest) refl

@@ -16,4 +16,4 @@ returns-in-10 c = rw c.in-10.is c.ite.ensures
 
 pub returns-in_default : goal.returns-in_default
 unfolding three_type threes
-returns-in_default c = rw (numbered_other (Unit {0}) (λ r e f g. Untyped) threes c.args.r.op c.in-4.rest) refl
+returns-in_default c = rw (numbered_other (Unit {0}) (λ r e f g. Untyped) threes c.args.r.op c.in_default.in_default-own.rest) refl

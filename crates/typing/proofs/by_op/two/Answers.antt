@@ -28,4 +28,4 @@ returns-in-12 c = rw c.in-12.is c.concat.ensures
 
 pub returns-in_default : goal.returns-in_default
 unfolding two_type twos
-returns-in_default c = rw (numbered_other (Unit {0}) (λ Γ r e f. Untyped) twos c.args.r.op c.in-3.rest) refl
+returns-in_default c = rw (numbered_other (Unit {0}) (λ Γ r e f. Untyped) twos c.args.r.op c.in_default.in_default-own.rest) refl
