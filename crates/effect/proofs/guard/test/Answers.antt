@@ -5,9 +5,7 @@ use Rattle.effect.proofs.LeavingLaws.{tested_by, test_leaves}
 use Rattle.effect.proofs.guard.test.Goals as goal
 
 pub whole-v-requires : goal.whole-v-requires
-whole-v-requires c =
-    let p = c.requires in
-    record { ready = p.0; i_bound = p.1 }
+whole-v-requires c = record { ready = c.requires.ready; i_bound = c.requires.e_bound }
 
 pub returns-in-Of : goal.returns-in-Of
 returns-in-Of c =

@@ -36,7 +36,7 @@ asked s =
 
 pub store-requires : goal.store-requires
 store-requires c =
-    let p = c.requires in
+    let p = (c.requires.holds, c.requires.three_fits) in
     let op = c.in-4.is in
     record { holds = p.0; size_ok = p.1.sized op; addressed = p.1.addressed op }
 

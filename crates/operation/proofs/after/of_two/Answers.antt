@@ -6,7 +6,7 @@ use Rattle.operation.proofs.after.of_two.Goals as goal
 
 pub load-requires : goal.load-requires
 load-requires c =
-    let p = c.requires in
+    let p = (c.requires.holds, c.requires.two_fits) in
     let op = c.in-3.is in
     record { holds = p.0; size_ok = p.1.sized op; addressed = p.1.addressed op }
 

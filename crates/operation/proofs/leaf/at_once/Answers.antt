@@ -10,8 +10,7 @@ use Rattle.operation.proofs.leaf.at_once.Goals as goal
 
 pub of_record-requires : goal.of_record-requires
 of_record-requires c =
-    let p = c.requires in
-    record { framed = p.0; variables_in_bounds = p.1.0; count_le_most_bindings = p.1.1.0; a_lt_variables = subst (λ (r : Node). r.op ≡ 1 → r.a < c.args.h.variables) (sym c.expression.ensures) p.1.1.1.1 }
+    record { framed = c.requires.framed; variables_in_bounds = c.requires.variables_in_bounds; count_le_most_bindings = c.requires.count_le_most_bindings; a_lt_variables = subst (λ (r : Node). r.op ≡ 1 → r.a < c.args.h.variables) (sym c.expression.ensures) c.requires.i_bound }
 
 pub returns : goal.returns
 returns c =

@@ -9,7 +9,7 @@ use Rattle.sealcheck.proofs.rules.expression_ok.Goals as goal
 pub label_at-requires : goal.label_at-requires
 unfolding expression_seal_rule
 label_at-requires c =
-    let both = asked_by_head c.requires in
+    let both = asked_by_head (c.requires.framed, (c.requires.records_hold, c.requires.i_lt_expressions)) in
     record { framed = both.0; records_hold = both.1.0; i_bound = both.1.1 }
 
 pub returns-in-Of : goal.returns-in-Of

@@ -9,7 +9,7 @@ use Rattle.typecheck.proofs.rules.expression_ok.Goals as goal
 pub type_at-requires : goal.type_at-requires
 unfolding expression_type_rule
 type_at-requires c =
-    let both = asked_by_head c.requires in
+    let both = asked_by_head (c.requires.framed, (c.requires.records_hold, c.requires.i_lt_expressions)) in
     record { framed = both.0; records_hold = both.1.0; i_bound = both.1.1 }
 
 pub returns-in-Of : goal.returns-in-Of

@@ -17,7 +17,7 @@ abbrev After-statement-r : Type 0
 After-statement-r = Lts.After-statement Tie.the-claims Reads.Pre Reads.Post Tie.handed_clauses
 
 read : (c : After-statement-r) → let a = c.args in StatementRead a.s.now a.h a.i c.statement-r.result
-read c = record { asked = c.requires; is = c.statement-r.ensures }
+read c = record { asked = (c.requires.framed, (c.requires.records_hold, c.requires.i_lt_statements)); is = c.statement-r.ensures }
 
 pub type_of-requires : goal.type_of-requires
 unfolding statement_rows statement_types statement_typed

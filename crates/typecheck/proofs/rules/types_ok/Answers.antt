@@ -26,4 +26,4 @@ loop-i-preserved c = one_passed _ c.loop-i.invariant c.loop-i-test.true c.statem
 
 pub returns : goal.returns
 unfolding type_rules statement_type_rule
-returns c = let pre = c.requires in types_accepted pre.1.0 pre.1.1 (all_passed _ c.loop-i.invariant c.loop-i-test.false)
+returns c = types_accepted c.requires.records_hold c.requires.s_value (all_passed _ c.loop-i.invariant c.loop-i-test.false)

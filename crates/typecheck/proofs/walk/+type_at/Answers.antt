@@ -1,0 +1,88 @@
+-- `typecheck::walk::type_at`: each case is what its op makes of its operands' types. Assumes nothing.
+use Rattle.std.proofs.Common.{◌≡◌, ◌∙◌, ◌<◌, List, ℕ}
+use Rattle.table.specs.declared.Header.{Header}
+use Rattle.table.specs.declared.Node.{Node}
+use Rattle.table.specs.Bytes.{header, expression}
+use Rattle.table.specs.Fields.{operands, expression_row}
+use Rattle.table.specs.Records.{Framed, RecordsHold}
+use Rattle.forest.specs.declared.operands.Operands.{Operands}
+use Rattle.forest.specs.Counting.{listed}
+use Rattle.typecheck.proofs.OperandTypes.{types}
+use Rattle.typecheck.proofs.WalkLaws.{Read, leaf_asked, one_asked, two_asked, three_asked, bits_asked, let_asked}
+use Rattle.typecheck.proofs.WalkLaws.{leaf_found, one_found, two_found, three_found}
+use Rattle.typecheck.proofs.walk.+type_at.Goals as goal
+
+-- what is known when the operands are read
+known : (t : ℕ) {s : List ℕ} {i : ℕ} {h : Header} {r : Node} {o : Operands} → i ≡ t → Framed s (header s) → RecordsHold s
+    → i < (header s).expressions → h ≡ header s → r ≡ expression s i → listed o ≡ operands (expression_row r) r → Read s t i h r o
+known t e framed hold inside head is names =
+    record { asked = (e, (framed, (hold, inside))); head = head; is = is; names = names }
+
+pub leaf-requires : goal.leaf-requires
+leaf-requires t c =
+    let m = known t c.decreases c.requires.framed c.requires.records_hold c.requires.i_bound c.header-h.ensures c.expression-r.ensures c.of_expression-o.ensures in
+    let asked = leaf_asked m in
+    record { framed = asked.0; a_lt_variables = asked.1 }
+
+pub type_at-requires : goal.type_at-requires
+type_at-requires t c =
+    let m = known t c.decreases c.requires.framed c.requires.records_hold c.requires.i_bound c.header-h.ensures c.expression-r.ensures c.of_expression-o.ensures in
+    one_asked m c.in-One.is
+
+pub one-requires : goal.one-requires
+one-requires t c =
+    let m = known t c.decreases c.requires.framed c.requires.records_hold c.requires.i_bound c.header-h.ensures c.expression-r.ensures c.of_expression-o.ensures in
+    let asked = bits_asked m in
+    record { q_le_p = asked.0; p_bound = asked.1 }
+
+pub type_at-requires-in-Two : goal.type_at-requires-in-Two
+type_at-requires-in-Two t c =
+    let m = known t c.decreases c.requires.framed c.requires.records_hold c.requires.i_bound c.header-h.ensures c.expression-r.ensures c.of_expression-o.ensures in
+    (two_asked m c.in-Two.is).0
+
+pub type_at-requires-in-Two-2 : goal.type_at-requires-in-Two-2
+type_at-requires-in-Two-2 t c =
+    let m = known t c.decreases c.requires.framed c.requires.records_hold c.requires.i_bound c.header-h.ensures c.expression-r.ensures c.of_expression-o.ensures in
+    (two_asked m c.in-Two.is).1
+
+pub two-requires : goal.two-requires
+two-requires t c =
+    let m = known t c.decreases c.requires.framed c.requires.records_hold c.requires.i_bound c.header-h.ensures c.expression-r.ensures c.of_expression-o.ensures in
+    let asked = let_asked m in
+    record { framed = asked.0; a_lt_variables = asked.1 }
+
+pub type_at-requires-in-Three : goal.type_at-requires-in-Three
+type_at-requires-in-Three t c =
+    let m = known t c.decreases c.requires.framed c.requires.records_hold c.requires.i_bound c.header-h.ensures c.expression-r.ensures c.of_expression-o.ensures in
+    (three_asked m c.in-Three.is).0
+
+pub type_at-requires-in-Three-2 : goal.type_at-requires-in-Three-2
+type_at-requires-in-Three-2 t c =
+    let m = known t c.decreases c.requires.framed c.requires.records_hold c.requires.i_bound c.header-h.ensures c.expression-r.ensures c.of_expression-o.ensures in
+    (three_asked m c.in-Three.is).1.0
+
+pub type_at-requires-in-Three-3 : goal.type_at-requires-in-Three-3
+type_at-requires-in-Three-3 t c =
+    let m = known t c.decreases c.requires.framed c.requires.records_hold c.requires.i_bound c.header-h.ensures c.expression-r.ensures c.of_expression-o.ensures in
+    (three_asked m c.in-Three.is).1.1
+
+pub returns-in-Leaf : goal.returns-in-Leaf
+returns-in-Leaf t c =
+    let m = known t c.decreases c.requires.framed c.requires.records_hold c.requires.i_bound c.header-h.ensures c.expression-r.ensures c.of_expression-o.ensures in
+    c.leaf.ensures ∙ leaf_found (types _) m c.in-Leaf.is
+
+pub returns-in-One : goal.returns-in-One
+returns-in-One t c =
+    let m = known t c.decreases c.requires.framed c.requires.records_hold c.requires.i_bound c.header-h.ensures c.expression-r.ensures c.of_expression-o.ensures in
+    c.one.ensures ∙ one_found (types _) m c.in-One.is c.type_at.ensures
+
+pub returns-in-Two : goal.returns-in-Two
+returns-in-Two t c =
+    let m = known t c.decreases c.requires.framed c.requires.records_hold c.requires.i_bound c.header-h.ensures c.expression-r.ensures c.of_expression-o.ensures in
+    c.two.ensures ∙ two_found (types _) m c.in-Two.is c.type_at-in-Two.ensures c.type_at-in-Two-2.ensures
+
+pub returns-in-Three : goal.returns-in-Three
+returns-in-Three t c =
+    let m = known t c.decreases c.requires.framed c.requires.records_hold c.requires.i_bound c.header-h.ensures c.expression-r.ensures c.of_expression-o.ensures in
+    c.three.ensures
+    ∙ three_found (types _) m c.in-Three.is c.type_at-in-Three.ensures c.type_at-in-Three-2.ensures c.type_at-in-Three-3.ensures
