@@ -31,6 +31,12 @@ pub record Read (s : List ℕ) (measure i : ℕ) (h : Header) (r : Node) (o : Op
   pub is : r ≡ expression s i
   pub names : listed o ≡ operands (expression_row r) r
 
+-- the same, of a call that the walk has come to by what each step promised
+pub known : (t : ℕ) {s : List ℕ} {i : ℕ} {h : Header} {r : Node} {o : Operands} → i ≡ t → Framed s (header s) → RecordsHold s
+    → i < (header s).expressions → h ≡ header s → r ≡ expression s i → listed o ≡ operands (expression_row r) r → Read s t i h r o
+known t e framed hold inside head is names =
+    record { asked = (e, (framed, (hold, inside))); head = head; is = is; names = names }
+
 -- what reading the record asks when the header was read
 pub record_asked : {s : List ℕ} {i : ℕ} {h : Header} → Asked s i → h ≡ header s → Framed s h × (i < h.expressions)
 record_asked {s} {i} a e = (subst (Framed s) (sym e) a.0, subst (λ (h : Header). i < h.expressions) (sym e) a.1.1)

@@ -1,22 +1,9 @@
 -- `typecheck::walk::type_at`: each case is what its op makes of its operands' types. Assumes nothing.
-use Rattle.std.proofs.Common.{◌≡◌, ◌∙◌, ◌<◌, List, ℕ}
-use Rattle.table.specs.declared.Header.{Header}
-use Rattle.table.specs.declared.Node.{Node}
-use Rattle.table.specs.Bytes.{header, expression}
-use Rattle.table.specs.Fields.{operands, expression_row}
-use Rattle.table.specs.Records.{Framed, RecordsHold}
-use Rattle.forest.specs.declared.operands.Operands.{Operands}
-use Rattle.forest.specs.Counting.{listed}
+use Rattle.std.proofs.Common.{◌∙◌}
 use Rattle.typecheck.proofs.OperandTypes.{types}
-use Rattle.typecheck.proofs.WalkLaws.{Read, leaf_asked, one_asked, two_asked, three_asked, bits_asked, let_asked}
+use Rattle.typecheck.proofs.WalkLaws.{known, leaf_asked, one_asked, two_asked, three_asked, bits_asked, let_asked}
 use Rattle.typecheck.proofs.WalkLaws.{leaf_found, one_found, two_found, three_found}
 use Rattle.typecheck.proofs.walk.+type_at.Goals as goal
-
--- what is known when the operands are read
-known : (t : ℕ) {s : List ℕ} {i : ℕ} {h : Header} {r : Node} {o : Operands} → i ≡ t → Framed s (header s) → RecordsHold s
-    → i < (header s).expressions → h ≡ header s → r ≡ expression s i → listed o ≡ operands (expression_row r) r → Read s t i h r o
-known t e framed hold inside head is names =
-    record { asked = (e, (framed, (hold, inside))); head = head; is = is; names = names }
 
 pub leaf-requires : goal.leaf-requires
 leaf-requires t c =
