@@ -1,5 +1,5 @@
 -- A buffer and the log that it holds: as it comes, and after one entry more. Assumes nothing.
-use Rattle.std.proofs.Common.{◌≡◌, ℕ, zero, suc, ◌+◌, ◌-◌, ◌*◌, ◌<◌, ◌≤◌, List, [], ◌∷◌, ◌++◌, length, get_or, take, drop, sym, refl, ap, ◌∙◌, arith, take-append-drop, drop-cons, drop-drop, take_at, take-add}
+use Rattle.std.proofs.Common.{◌≡◌, ℕ, zero, suc, ◌+◌, ◌-◌, ◌*◌, ◌<◌, ◌≤◌, List, ◌∷◌, ◌++◌, length, get_or, take, drop, sym, refl, ap, ◌∙◌, arith, take-append-drop, drop-cons, drop-drop, take_at, take-add}
 use lib.Seq.{sets, sets-eq, drop-append-add}
 use Rattle.memory.specs.declared.Entry.{Entry}
 use Rattle.memory.specs.Log.{Log, entry_size, entry_at, entries, fields_of, numbers_of, holding}

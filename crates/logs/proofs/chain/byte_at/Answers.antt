@@ -1,21 +1,8 @@
 -- The walk: the byte from the entry that it has come to is the byte from the head. The measure is that entry's number: a previous
 -- entry is lower. Assumes nothing.
-use Rattle.std.proofs.Common.{◌≡◌, ◌≤◌, sym, refl, ◌∙◌, arith}
-use Rattle.memory.specs.Log.{entries, chain}
-use Rattle.memory.specs.Access.{byte_at}
+use Rattle.std.proofs.Common.{◌≡◌, sym, ◌∙◌, arith}
 use Rattle.logs.proofs.ChainLaws.{at_none, at_address, at_other, previous_lower}
 use Rattle.logs.proofs.chain.byte_at.Goals as goal
-
-pub loop-at-init : goal.loop-at-init
-loop-at-init c = (c.requires.head_le_count, refl)
-
-pub entry_at-entry-requires : goal.entry_at-entry-requires
-entry_at-entry-requires c =
-    let room = c.requires.holds.room in
-    let l = c.loop-at in
-    let most = l.invariant.0 in
-    let some = c.if-at-eq0.false in
-    (omega arith, omega arith)
 
 pub loop-at-smaller : goal.loop-at-smaller
 loop-at-smaller c =

@@ -1,9 +1,8 @@
 -- The walk: the byte from the entry that it has come to is the byte from the head. The measure is that entry's number: a previous
 -- entry is lower. Assumes nothing.
-use Rattle.std.proofs.Common.{◌≡◌, ◌≤◌, sym, refl, ◌∙◌, arith}
+use Rattle.std.proofs.Common.{◌≡◌, ◌≤◌}
 use Rattle.memory.specs.Log.{entries, chain}
 use Rattle.memory.specs.Access.{byte_at}
-use Rattle.logs.proofs.ChainLaws.{at_none, at_address, at_other, previous_lower}
 use Rattle.logs.proofs.chain.byte_at.Given as goal
 
 abbrev pub invariant-loop-at : goal.invariant-loop-at

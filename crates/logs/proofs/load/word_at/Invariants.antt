@@ -1,9 +1,7 @@
 -- The bytes read so far make the word so far, and the next stands at the address in hand; the measure is how many are left. Assumes nothing.
-use Rattle.std.proofs.Common.{◌≡◌, ◌-◌, ◌/◌, ◌^◌, ◌<◌, ◌≤◌, List, arith, pow_mono}
-use Rattle.memory.specs.Log.{Cell, entries, chain, unknown_byte}
-use Rattle.memory.specs.Access.{succ, byte_at, loaded}
-use Rattle.logs.specs.Joining.{Joins}
-use Rattle.logs.proofs.JoinLaws.{Reading, reading_starts, reading_fits, reading_stops, reading_on, reading_ends, load_joined}
+use Rattle.std.proofs.Common.{◌-◌, ◌/◌, ◌^◌, ◌<◌}
+use Rattle.memory.specs.Log.{entries, chain}
+use Rattle.logs.proofs.JoinLaws.{Reading}
 use Rattle.logs.proofs.load.word_at.Given as goal
 
 abbrev pub invariant-loop-i : goal.invariant-loop-i

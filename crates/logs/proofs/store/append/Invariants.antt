@@ -1,12 +1,10 @@
 -- The bytes so far stand in the buffer, and those to come, appended to the log that it holds, make the whole store; the measure is how many
 -- are left. Assumes nothing.
-use Rattle.std.proofs.Common.{◌≡◌, ℕ, ◌-◌, ◌*◌, ◌/◌, ◌^◌, ◌<◌, List, [], ◌∷◌, length, get_or, arith, pow_mono}
-use lib.Seq.{sets}
-use Rattle.memory.specs.Log.{entry_size, entries, room_in}
+use Rattle.std.proofs.Common.{◌-◌, ◌/◌, ◌^◌, ◌<◌}
+use Rattle.memory.specs.Log.{entries, room_in}
 use Rattle.memory.specs.Access as Access
 use Rattle.memory.specs.Access.{bytes_in, succ}
-use Rattle.memory.proofs.AccessKeeps.{length-bytes_in}
-use Rattle.logs.proofs.AppendLaws.{Appending, appending_starts, appending_long, appending_stops, appending_on, appending_ends}
+use Rattle.logs.proofs.AppendLaws.{Appending}
 use Rattle.logs.proofs.store.append.Given as goal
 
 abbrev pub invariant-loop-i : goal.invariant-loop-i

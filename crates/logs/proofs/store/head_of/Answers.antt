@@ -1,5 +1,5 @@
 -- Each case by what the memory is. Assumes nothing.
-use Rattle.std.proofs.Common.{sym, ap, rules}
+use Rattle.std.proofs.Common.{sym, ap}
 use Rattle.memory.specs.Access.{head_of}
 use Rattle.logs.proofs.store.head_of.Goals as goal
 
