@@ -1,6 +1,5 @@
 -- `states::kind_of`: each case by what the value is. Assumes nothing.
 use mathlib.Core.Path.{sym, ap}
-use borrow.Author.Rules.{rules}
 use Rattle.evaluation.specs.State.{kind_of}
 use Rattle.states.proofs.kind_of.Goals as goal
 

@@ -1,6 +1,5 @@
 -- `states::number_of`: each case by what the value is. Assumes nothing.
 use mathlib.Core.Path.{sym, ap}
-use borrow.Author.Rules.{rules}
 use Rattle.evaluation.specs.State.{number_of}
 use Rattle.states.proofs.number_of.Goals as goal
 

@@ -1,8 +1,7 @@
 -- `states::read`: the value of the variable's pair. Assumes nothing.
-use borrow.Author.Rules.{rules}
 use Rattle.evaluation.specs.State.{in_state}
 use Rattle.states.proofs.read.Goals as goal
 
 pub returns : goal.returns
 unfolding in_state
-returns c = c.value_of_lem.ensures
+returns c = c.value_of.ensures

@@ -2,7 +2,6 @@
 use mathlib.Core.Path.{refl, ap}
 use mathlib.Core.List.{[], ◌∷◌}
 use Prim.Native.Nat.{ℕ}
-use borrow.Author.Rules.{rules}
 use Rattle.base.proofs.NumberedLaws.{numbered_other}
 use Rattle.value.specs.declared.Value.TheVariants.{Word, Unknown, Memory}
 use Rattle.value.specs.Values.{size}

@@ -1,9 +1,7 @@
 -- `states::write`: the variable's pair becomes the value's. Assumes nothing.
 use mathlib.Core.Path.{ap₂}
 use Prim.Native.Nat.{ℕ, ◌+◌, ◌*◌}
-use native.Mathlib.Omega.{arith}
-use lib.ListN.{set, length-set}
-use borrow.Author.Rules.{rules}
+use lib.ListN.{set}
 use Rattle.evaluation.specs.State.{moved}
 use Rattle.states.proofs.write.Goals as goal
 
@@ -11,7 +9,4 @@ pub returns : goal.returns
 unfolding moved
 returns c =
     let x = c.args.x in
-    ap₂ (λ (kind number : ℕ). set (set c.args.state.now (2 * x) kind) (2 * x + 1) number) c.kind_of.ensures c.number_of_lem.ensures
-
-pub bounds-state-at-2 : goal.bounds-state-at-2
-bounds-state-at-2 c = simp length-set (omega arith)
+    ap₂ (λ (kind number : ℕ). set (set c.args.state.now (2 * x) kind) (2 * x + 1) number) c.kind_of.ensures c.number_of.ensures
