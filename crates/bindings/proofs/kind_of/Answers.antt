@@ -1,6 +1,5 @@
 -- `bindings::kind_of`: each case by what the value is. Assumes nothing.
 use mathlib.Core.Path.{sym, ap, ◌∙◌}
-use borrow.Author.Rules.{rules}
 use Rattle.value.specs.declared.Value.TheVariants.{Unknown}
 use Rattle.bindings.specs.Bound.{kind_held}
 use Rattle.bindings.proofs.kind_of.Goals as goal
