@@ -2,7 +2,6 @@
 use native.Mathlib.Omega.{arith}
 use Rattle.report.specs.Lines.{answer_line}
 use Rattle.report.proofs.PlacedLaws.{then_adds, adds_wider}
-use borrow.Author.Rules.{rules}
 use Rattle.report.proofs.lines.answer_line.Goals as goal
 
 pub returns : goal.returns
@@ -10,6 +9,3 @@ unfolding answer_line
 returns c =
     let short = c.requires.word_len_bound in
     adds_wider (then_adds (then_adds (then_adds c.add-named.ensures c.field-coded.ensures) c.field-placed.ensures) c.add.ensures) (omega arith)
-
-pub add-requires : goal.add-requires
-add-requires c = slice-aggregate-add c

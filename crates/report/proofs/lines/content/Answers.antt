@@ -7,7 +7,6 @@ use Rattle.base.proofs.NumberedLaws.{numbered_other}
 use Rattle.report.specs.Lines.{content, field, absent_word, word_word, unknown_word, memory_word}
 use Rattle.report.specs.Placed.{Adds}
 use Rattle.report.proofs.PlacedLaws.{then_adds, adds_wider}
-use borrow.Author.Rules.{rules}
 use Rattle.report.proofs.lines.content.Goals as goal
 
 pub returns-in-1 : goal.returns-in-1
@@ -27,16 +26,4 @@ unfolding content
 returns-in_default c =
     let n = c.args.n in
     let other = numbered_other (Unit {0}) absent_word ((1, word_word ++ field n) ∷ (2, unknown_word) ∷ (3, memory_word ++ field n) ∷ []) c.args.kind c.in_default.in_default-own.rest in
-    subst (λ (t : List ℕ). Adds 28 c.args.out.now c.args.at t c.add-in_default.new.0 c.add-in_default.result) (sym other) (adds_wider c.add-in_default.ensures (omega arith))
-
-pub add-worded-requires : goal.add-worded-requires
-add-worded-requires c = slice-aggregate-add c
-
-pub add-named-requires : goal.add-named-requires
-add-named-requires c = slice-aggregate-add-2 c
-
-pub add-requires-in_default : goal.add-requires-in_default
-add-requires-in_default c = slice-aggregate-add-3 c
-
-pub shape_of-out-in-2 : goal.shape_of-out-in-2
-shape_of-out-in-2 c = slice-aggregate-add-4 c
+    subst (λ (t : List ℕ). Adds 28 c.args.out.now c.args.at t c.add-in_default.new.out c.add-in_default.result) (sym other) (adds_wider c.add-in_default.ensures (omega arith))

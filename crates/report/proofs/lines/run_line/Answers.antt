@@ -1,7 +1,6 @@
 -- The word, the five numbers and the line's end, one behind the other. Assumes nothing.
 use Rattle.report.specs.Lines.{run_line}
 use Rattle.report.proofs.PlacedLaws.{then_adds}
-use borrow.Author.Rules.{rules}
 use Rattle.report.proofs.lines.run_line.Goals as goal
 
 pub returns : goal.returns
@@ -14,9 +13,3 @@ returns c =
     c.field-counted.ensures)
     c.field-addressed.ensures)
     c.add.ensures
-
-pub add-named-requires : goal.add-named-requires
-add-named-requires c = slice-aggregate-add c
-
-pub shape_of-out : goal.shape_of-out
-shape_of-out c = slice-aggregate-add-2 c

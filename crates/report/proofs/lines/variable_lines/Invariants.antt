@@ -1,11 +1,7 @@
 -- So far the lines of the first x variables stand in the buffer; the measure is how many variables are left. Assumes nothing.
-use mathlib.Core.Path.{◌≡◌, subst}
-use Prim.Native.Nat.{ℕ, suc, ◌+◌, ◌*◌, ◌-◌, ◌≤◌}
-use native.Mathlib.Omega.{arith}
-use lib.ListN.{length}
+use Prim.Native.Nat.{◌*◌, ◌-◌, ◌≤◌}
 use Rattle.report.specs.Lines.{variable_lines}
 use Rattle.report.specs.Placed.{Adds}
-use Rattle.report.proofs.PlacedLaws.{then_adds, adds_none, adds_wider, adds_long}
 use Rattle.report.proofs.lines.variable_lines.Given as goal
 
 abbrev pub invariant-loop-x : goal.invariant-loop-x

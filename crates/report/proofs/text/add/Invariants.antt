@@ -1,12 +1,8 @@
 -- So far the buffer has the first i bytes of the text; the measure is how many are left. Assumes nothing.
-use mathlib.Core.Path.{◌≡◌, refl, sym, ap, subst, ◌∙◌}
-use Prim.Native.Nat.{ℕ, suc, ◌+◌, ◌-◌, ◌≤◌}
-use native.Mathlib.Omega.{arith}
-use mathlib.Core.List.{List}
-use lib.ListN.{length, take, get_or, set, length-set}
-use lib.Seq.{sets, length-sets, take-length}
-use borrow.Author.Rules.{rules}
-use Rattle.report.proofs.PlacedLaws.{sets_more}
+use mathlib.Core.Path.{◌≡◌}
+use Prim.Native.Nat.{◌-◌, ◌≤◌}
+use lib.ListN.{length, take}
+use lib.Seq.{sets}
 use Rattle.report.proofs.text.add.Given as goal
 
 abbrev pub invariant-loop-i : goal.invariant-loop-i

@@ -8,22 +8,14 @@ use Rattle.report.specs.Lines.{decimal}
 use Rattle.report.specs.Placed.{Adds}
 use Rattle.report.proofs.PlacedLaws.{adds_wider}
 use Rattle.report.proofs.DecimalLaws.{few_digits, decimal_is}
-use borrow.Author.Rules.{rules}
 use Rattle.report.proofs.text.number.Goals as goal
-
-pub add-requires : goal.add-requires
-add-requires c =
-    let d = c.decimal-k in
-    let few = few_digits d.result c.args.n (omega arith) d.ensures.1.0 in
-    let counted = d.ensures.0.1 in
-    omega arith
 
 pub returns : goal.returns
 returns c =
     let d = c.decimal-k in
-    let few : d.result ≤ 20 = few_digits d.result c.args.n (omega arith) d.ensures.1.0 in
-    let counted = d.ensures.0.1 in
-    let text : take d.result d.new.1.0 ≡ decimal c.args.n = d.ensures.1.1 ∙ decimal_is d.result c.args.n few d.ensures.1.0 in
-    let put : Adds (length (take d.result d.new.1.0)) c.args.out.now c.args.at (take d.result d.new.1.0) c.add.new.0 c.add.result =
+    let few : d.result ≤ 20 = few_digits d.result c.args.n (omega arith) d.ensures.len in
+    let counted = d.ensures.in_bounds in
+    let text : take d.result d.new.out ≡ decimal c.args.n = d.ensures.digits ∙ decimal_is d.result c.args.n few d.ensures.len in
+    let put : Adds (length (take d.result d.new.out)) c.args.out.now c.args.at (take d.result d.new.out) c.add.new.out c.add.result =
     c.add.ensures in
-    subst (λ (t : List ℕ). Adds 20 c.args.out.now c.args.at t c.add.new.0 c.add.result) text (adds_wider put (omega arith))
+    subst (λ (t : List ℕ). Adds 20 c.args.out.now c.args.at t c.add.new.out c.add.result) text (adds_wider put (omega arith))
