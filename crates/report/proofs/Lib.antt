@@ -1,3 +1,4 @@
 pub mod DecimalLaws
 pub mod PlacedLaws
+pub mod RoleLaws
 pub mod Unique

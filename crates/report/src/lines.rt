@@ -74,6 +74,7 @@ fn variable_line(out: &mut [u8], at: usize, x: u64, kind: u64, n: u64) -> usize
 }
 
 // The line of variable x of a table. A let variable has none.
+#[tactic(auto, using(crate::proofs::RoleLaws::let_line, crate::proofs::RoleLaws::state_line))]
 fn line_of(table: &[u8], h: Header, state: &[u64], out: &mut [u8], at: usize, x: usize) -> usize
     requires framed { Framed table.now h }
     requires x_lt_variables { x < h.variables }
