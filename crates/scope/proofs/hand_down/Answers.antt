@@ -1,7 +1,6 @@
 -- `hand_down`: every operand gets what the expression has, then a let's body the let itself. Assumes nothing.
 use mathlib.Core.Path.{◌≡◌}
 use native.Mathlib.Omega.{arith}
-use borrow.Author.Rules.{rules}
 use Rattle.scope.proofs.HandingLaws.{handed_to_all, handed_to_body}
 use Rattle.scope.proofs.ScopeLaws.{body_stands}
 use Rattle.forest.proofs.StandsLaws.{stands_below}

@@ -1,15 +1,8 @@
 -- `in_body`: the invariant is that the expression asked for stands in the body of a let of x where the one reached does, the measure how
 -- many expressions follow it. Assumes nothing.
-use mathlib.Core.Path.{◌≡◌, refl, sym, ap, ◌∙◌}
-use Prim.Native.Nat.{ℕ, ◌≤◌, ◌<◌, ◌-◌}
-use native.Mathlib.Omega.{arith}
-use borrow.Author.Rules.{rules}
-use lib.ListN.{get_or}
-use Rattle.table.specs.declared.Node.{Node}
-use Rattle.table.specs.Bytes.{expression}
+use mathlib.Core.Path.{◌≡◌}
+use Prim.Native.Nat.{◌≤◌, ◌<◌, ◌-◌}
 use Rattle.forest.specs.Forest.{in_body_of}
-use Rattle.scope.specs.Scoping.{Leads}
-use Rattle.scope.proofs.NearestLaws.{in_none, leads, leads_found, leads_on}
 use Rattle.scope.proofs.in_body.Given as goal
 
 abbrev pub invariant-loop-k : goal.invariant-loop-k

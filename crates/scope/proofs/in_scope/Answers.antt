@@ -2,7 +2,6 @@
 use mathlib.Core.Path.{◌≡◌, ap, sym, ◌∙◌}
 use mathlib.Core.Bool.{not}
 use native.Mathlib.Omega.{arith}
-use borrow.Author.Rules.{rules}
 use Rattle.table.specs.declared.Variable.{Variable}
 use Rattle.table.specs.Bytes.{variable}
 use Rattle.scope.proofs.NearestLaws.{scope_let, scope_other, scope_state, scope_var, var_counted}
@@ -37,8 +36,3 @@ returns c =
     let role = ap (λ (v : Variable). v.role) c.variable-v.ensures in
     let lets : (variable c.args.s.now c.args.r.a).role ≡ 1 = omega arith in
     c.in_body-2.ensures ∙ sym (scope_var c.args.s.now c.args.i c.requires.r_value is lets)
-
-pub in_body-requires-2 : goal.in_body-requires-2
-in_body-requires-2 c =
-    let p = c.requires in
-    record { framed = p.0; i_lt_expressions = p.1.1.0; expressions_in_bounds = p.1.1.1.0; nearest_from = p.1.1.1.1.0 }

@@ -1,6 +1,5 @@
 -- `store`: one place of the slice. Assumes nothing.
 use native.Mathlib.Omega.{arith}
-use borrow.Author.Rules.{rules}
 use Rattle.scope.proofs.HandingLaws.{stored_one}
 use Rattle.scope.proofs.store.Goals as goal
 

@@ -2,7 +2,6 @@
 use mathlib.Core.Path.{◌≡◌, subst, sym}
 use mathlib.Core.List.{List}
 use Prim.Native.Nat.{ℕ}
-use borrow.Author.Rules.{rules}
 use Rattle.forest.specs.declared.operands.Operands.{Operands}
 use Rattle.forest.specs.Counting.{listed}
 use Rattle.scope.specs.Scoping.{Stored}
