@@ -26,9 +26,9 @@ module _ (room : ℕ) (L : Log) (r : Node) (x y z : Value) where
   unfolding three_value threes
   at_store e = rw e refl
 
-  at-ite : r.op ≡ 10 → three_value room L r x y z ≡ value (Values.choose z y x) L
+  at_ite : r.op ≡ 10 → three_value room L r x y z ≡ value (Values.choose z y x) L
   unfolding three_value threes
-  at-ite e = rw e refl
+  at_ite e = rw e refl
 
 abbrev asked : Start → Evaluated
 asked s =
@@ -36,9 +36,9 @@ asked s =
 
 pub store-requires : goal.store-requires
 store-requires c =
-    let p = (c.requires.holds, c.requires.three_fits) in
+    let fits = c.requires.three_fits in
     let op = c.in-4.is in
-    record { holds = p.0; size_ok = p.1.sized op; addressed = p.1.addressed op }
+    record { holds = c.requires.holds; size_ok = fits.sized op; addressed = fits.addressed op }
 
 pub choose-requires : goal.choose-requires
 choose-requires c =
@@ -50,7 +50,7 @@ returns-in-4 c =
     let a = c.args in
     let room = room_in a.log.now in
     let L = entries a.log.now a.count in
-    subst (λ (x : Evaluated). Leaves a.log.now x c.of_store.result c.store.new.0)
+    subst (λ (x : Evaluated). Leaves a.log.now x c.of_store.result c.store.new.log)
     (at_store room L a.r a.x a.y a.z c.in-4.is)
     (store_leaves (Access.store room L a.r.p (eqb a.r.q 1) a.z a.y a.x) c.store.ensures c.of_store.ensures)
 
@@ -58,7 +58,7 @@ pub returns-in-10 : goal.returns-in-10
 returns-in-10 c =
     let a = c.args in
     leaves_value c.requires.holds.room
-    (at-ite (room_in a.log.now) (entries a.log.now a.count) a.r a.x a.y a.z c.in-10.is)
+    (at_ite (room_in a.log.now) (entries a.log.now a.count) a.r a.x a.y a.z c.in-10.is)
     c.choose.ensures.is
 
 pub returns-in_default : goal.returns-in_default

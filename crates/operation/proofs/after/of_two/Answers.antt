@@ -6,9 +6,9 @@ use Rattle.operation.proofs.after.of_two.Goals as goal
 
 pub load-requires : goal.load-requires
 load-requires c =
-    let p = (c.requires.holds, c.requires.two_fits) in
+    let fits = c.requires.two_fits in
     let op = c.in-3.is in
-    record { holds = p.0; size_ok = p.1.sized op; addressed = p.1.addressed op }
+    record { holds = c.requires.holds; size_ok = fits.sized op; addressed = fits.addressed op }
 
 pub binary-requires : goal.binary-requires
 binary-requires c =

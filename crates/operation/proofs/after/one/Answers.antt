@@ -11,8 +11,7 @@ of_one-requires c = c.requires.fits _ _ c.in-Of.is
 
 pub returns-in-Of : goal.returns-in-Of
 returns-in-Of c =
-    let given = c.e-1.given in
-    ap (λ (v : Value). Of v given.0.1.0) c.of_one.ensures ∙ sym (ap (one_after c.args.r) given.1)
+    ap (λ (v : Value). Of v c.in-Of.n) c.of_one.ensures ∙ sym (ap (one_after c.args.r) c.in-Of.is)
 
 pub returns-in-Stopped : goal.returns-in-Stopped
 returns-in-Stopped c = sym (ap (one_after c.args.r) c.in-Stopped.is)

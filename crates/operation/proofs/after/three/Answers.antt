@@ -16,9 +16,8 @@ of_three-requires c =
 pub returns-in-Of : goal.returns-in-Of
 returns-in-Of c =
     let a = c.args in
-    let given = c.e-1.given in
-    subst (λ (x : Evaluated). Leaves a.log.now x c.of_three.result c.of_three.new.0)
-    (sym (ap (three_after a.log.now a.r a.x a.y) given.1)) c.of_three.ensures
+    subst (λ (x : Evaluated). Leaves a.log.now x c.of_three.result c.of_three.new.log)
+    (sym (ap (three_after a.log.now a.r a.x a.y) c.in-Of.is)) c.of_three.ensures
 
 pub returns-in-Stopped : goal.returns-in-Stopped
 returns-in-Stopped c =

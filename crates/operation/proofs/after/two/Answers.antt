@@ -15,8 +15,7 @@ of_two-requires c =
 pub returns-in-Of : goal.returns-in-Of
 returns-in-Of c =
     let a = c.args in
-    let given = c.e-1.given in
-    ap (λ (v : Value). Of v given.0.1.0) c.of_two.ensures ∙ sym (ap (two_after a.log.now a.r a.x) given.1)
+    ap (λ (v : Value). Of v c.in-Of.n) c.of_two.ensures ∙ sym (ap (two_after a.log.now a.r a.x) c.in-Of.is)
 
 pub returns-in-Stopped : goal.returns-in-Stopped
 returns-in-Stopped c =

@@ -11,8 +11,13 @@ use Rattle.operation.proofs.leaf.of_record.Goals as goal
 
 pub variable-requires : goal.variable-requires
 variable-requires c =
-    let p = (c.requires.framed, (c.requires.variables_in_bounds, (c.requires.count_le_most_bindings, c.requires.a_lt_variables))) in
-    record { framed = p.0; variables_in_bounds = p.1.0; count_le_most_bindings = p.1.1.0; x_lt_variables = p.1.1.1 c.in-1.is }
+    let p = c.requires in
+    record {
+      framed = p.framed;
+      variables_in_bounds = p.variables_in_bounds;
+      count_le_most_bindings = p.count_le_most_bindings;
+      x_lt_variables = p.a_lt_variables c.in-1.is;
+    }
 
 pub returns-in-1 : goal.returns-in-1
 unfolding at_once leaves
