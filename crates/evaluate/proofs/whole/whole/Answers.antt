@@ -15,16 +15,10 @@ use Rattle.evaluate.specs.Ready.{Ready}
 use Rattle.evaluate.proofs.ArmLaws.{at_once_asks, at_once_leaves}
 use borrow.Author.Rules.{rules}
 use Rattle.evaluate.proofs.whole.whole.Goals as goal
-use Rattle.evaluate.proofs.whole.whole.Lts
-use Rattle.evaluate.proofs.whole.whole.Tie
-use Rattle.evaluate.proofs.whole.whole.Reads
-
-abbrev Start : Type 0
-Start = Lts.Start Tie.the-claims Reads.Pre Reads.Post Tie.handed_clauses
 
 -- where no binding is in force
-ready_for : (s : Start) {b : Bindings} → b ≡ none → Ready s.args.s.now s.args.state.now s.args.log.now b s.args.count
-ready_for s e = subst (λ (b : Bindings). Ready s.args.s.now s.args.state.now s.args.log.now b s.args.count) (sym e) s.requires.ready
+ready_for : {s σ l : List ℕ} {n : ℕ} {b : Bindings} → Ready s σ l none n → b ≡ none → Ready s σ l b n
+ready_for {s} {σ} {l} {n} ready e = subst (λ (b : Bindings). Ready s σ l b n) (sym e) ready
 
 -- what is left for bindings that are none
 of_none : (s σ l : List ℕ) (n i : ℕ) {m : List ℕ} {r : Evaluated} (b : Bindings) → b ≡ none
@@ -37,20 +31,24 @@ header-h-requires c = omega (arith, c.requires.ready.framed.whole)
 
 pub at_once-p-requires : goal.at_once-p-requires
 at_once-p-requires c =
-    let s = c.before.before.before.before.before in
-    at_once_asks (ready_for s c.none.ensures) s.requires.i_bound c.header-h.ensures
+    let asked = at_once_asks (ready_for c.requires.ready c.none.ensures) c.requires.i_bound c.header-h.ensures in
+    record {
+      framed = asked.0;
+      variables_in_bounds = asked.1.0;
+      count_le_most_bindings = asked.1.1.0;
+      i_lt_expressions = asked.1.1.1.0;
+      i_bound = asked.1.1.1.1;
+    }
 
 pub eval-requires : goal.eval-requires
-eval-requires c =
-    let s = c.before.before.before.before.before.before.before.before.before in
-    record { ready = ready_for s c.none-in-Deeper.ensures; i_bound = s.requires.i_bound }
+eval-requires c = record { ready = ready_for c.requires.ready c.none-in-Deeper.ensures; i_bound = c.requires.i_bound }
 
 pub returns-in-Is : goal.returns-in-Is
 returns-in-Is c =
-    let s = c.before.before.before.before.before.before.before in
+    let a = c.args in
     let empty = c.none.ensures in
-    of_none s.args.s.now s.args.state.now s.args.log.now s.args.count s.args.i _ empty
-    (at_once_leaves (ready_for s empty) s.requires.i_bound c.at_once-p.ensures c.in-Is.is refl refl)
+    of_none a.s.now a.state.now a.log.now a.count a.i _ empty
+    (at_once_leaves (ready_for c.requires.ready empty) c.requires.i_bound c.at_once-p.ensures c.in-Is.is refl refl)
 
 pub returns-in-Deeper : goal.returns-in-Deeper
 returns-in-Deeper c =
