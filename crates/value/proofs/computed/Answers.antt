@@ -1,6 +1,5 @@
 -- `value::computed`: case by case. Assumes nothing.
 use mathlib.Core.Path.{ap, sym}
-use borrow.Author.Rules.{rules}
 use Rattle.value.specs.Values as Values
 use Rattle.value.proofs.computed.Goals as goal
 

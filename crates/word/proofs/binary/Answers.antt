@@ -1,5 +1,5 @@
 -- Each arm calls what stands under its number; a number that is no sub gives unknown. Assumes nothing.
-use Rattle.std.proofs.Common.{◌≡◌, ℕ, sym, ap, ◌∙◌, rules}
+use Rattle.std.proofs.Common.{◌≡◌, ℕ, sym, ap, ◌∙◌}
 use Rattle.base.proofs.NumberedLaws.{numbered_other}
 use Rattle.word.specs.declared.Computed.{Computed}
 use Rattle.word.specs.declared.Computed.TheVariants.{Unknown, Word}

@@ -1,7 +1,6 @@
 -- `bytes::byte`: a byte is below 256. Assumes nothing.
 use mathlib.Core.Path.{refl}
 use native.Mathlib.Omega.{arith}
-use borrow.Author.Rules.{rules}
 use Rattle.table.proofs.bytes.byte.Goals as goal
 
 pub overflow_cast-result : goal.overflow_cast-result

@@ -3,7 +3,6 @@ use mathlib.Core.Path.{ap, ◌∙◌}
 use Prim.Native.Nat.{◌+◌, ◌*◌}
 use Rattle.table.specs.declared.Header.{Header}
 use Rattle.table.specs.Bytes.{expression, expressions_from, node_at}
-use borrow.Author.Rules.{rules}
 use Rattle.table.proofs.bytes.expression.Goals as goal
 
 pub returns : goal.returns

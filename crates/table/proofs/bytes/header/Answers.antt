@@ -1,6 +1,5 @@
 -- `bytes::header`: number by number. Assumes nothing.
 use Rattle.table.specs.Bytes.{header}
-use borrow.Author.Rules.{rules}
 use Rattle.table.proofs.bytes.header.Goals as goal
 
 pub returns : goal.returns

@@ -1,7 +1,6 @@
 -- `bytes::long`: byte by byte. Assumes nothing.
 use native.Mathlib.Omega.{arith}
 use Rattle.table.proofs.NumberLaws.{number_4}
-use borrow.Author.Rules.{rules}
 use Rattle.table.proofs.bytes.long.Goals as goal
 
 pub returns : goal.returns

@@ -1,6 +1,5 @@
 -- `bytes::node_at`: field by field. Assumes nothing.
 use Rattle.table.specs.Bytes.{node_at}
-use borrow.Author.Rules.{rules}
 use Rattle.table.proofs.bytes.node_at.Goals as goal
 
 pub returns : goal.returns

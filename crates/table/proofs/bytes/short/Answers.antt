@@ -1,7 +1,6 @@
 -- `bytes::short`: byte by byte. Assumes nothing.
 use native.Mathlib.Omega.{arith}
 use Rattle.table.proofs.NumberLaws.{number_2}
-use borrow.Author.Rules.{rules}
 use Rattle.table.proofs.bytes.short.Goals as goal
 
 pub returns : goal.returns

@@ -1,6 +1,5 @@
 -- `bytes::variable`: the frame holds the record. Assumes nothing.
 use Rattle.table.specs.Bytes.{variable}
-use borrow.Author.Rules.{rules}
 use Rattle.table.proofs.bytes.variable.Goals as goal
 
 pub returns : goal.returns

@@ -5,7 +5,6 @@ use native.Mathlib.Omega.{arith}
 use lib.ListN.{get_or}
 use Rattle.table.specs.Bytes.{variable_at, number}
 use Rattle.table.proofs.NumberLaws.{number_3}
-use borrow.Author.Rules.{rules}
 use Rattle.table.proofs.bytes.variable_at.Goals as goal
 
 pub returns : goal.returns

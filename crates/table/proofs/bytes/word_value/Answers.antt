@@ -1,6 +1,5 @@
 -- `bytes::word_value`: the number of both halves. Assumes nothing.
 use mathlib.Core.Path.{refl}
-use borrow.Author.Rules.{rules}
 use Rattle.table.proofs.bytes.word_value.Goals as goal
 
 pub returns : goal.returns

@@ -1,7 +1,6 @@
 -- `framing::counts_ok`: the first test that fails decides, and the last one where none does. Assumes nothing.
 use Prim.Native.Nat.{◌<◌}
 use native.Mathlib.Omega.{arith}
-use borrow.Author.Rules.{rules}
 use borrow.Author.Tests.{le-leb, lt-leb}
 use Rattle.base.proofs.BoolLaws.{fails_here, goes_on}
 use Rattle.table.specs.Records.{most_expressions}

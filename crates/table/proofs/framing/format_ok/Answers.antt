@@ -1,5 +1,4 @@
 -- `framing::format_ok`: the first test that fails decides, and the last one where none does. Assumes nothing.
-use borrow.Author.Rules.{rules}
 use borrow.Author.Tests.{eq-eqb, ne_eqb}
 use Rattle.base.proofs.BoolLaws.{fails_here, goes_on}
 use Rattle.table.proofs.framing.format_ok.Goals as goal

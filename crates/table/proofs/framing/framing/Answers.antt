@@ -1,7 +1,6 @@
 -- `framing::framing`: the rules that hold are passed over, and the first that fails is the answer. Assumes nothing.
 use mathlib.Core.Path.{sym, ◌∙◌}
 use lib.Dec.{leb}
-use borrow.Author.Rules.{rules}
 use borrow.Author.Tests.{le-leb, lt-leb, leb-true}
 use Rattle.base.proofs.BoolLaws.{passed, failed, and_left, and_right}
 use Rattle.base.proofs.RefusalLaws.{whole_fails, whole_holds, no_rules}

@@ -1,7 +1,6 @@
 -- `framing::sections_ok`: the first test that fails decides, and the last one where none does. Sums of limited counts fit.
 -- Assumes nothing.
 use mathlib.Core.Path.{refl}
-use borrow.Author.Rules.{rules}
 use borrow.Author.Tests.{eq-eqb, ne_eqb}
 use Rattle.base.proofs.BoolLaws.{fails_here, goes_on}
 use Rattle.table.proofs.framing.sections_ok.Goals as goal

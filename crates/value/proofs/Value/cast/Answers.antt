@@ -1,6 +1,5 @@
 -- `Value::cast`: case by case; that the result is sound and has its type are laws. Assumes nothing.
 use mathlib.Core.Path.{◌≡◌, ap, sym, subst, ◌∙◌}
-use borrow.Author.Rules.{rules}
 use Rattle.value.specs.declared.ValueType.TheVariants.{Imm}
 use Rattle.value.specs.declared.Value.{Value}
 use Rattle.word.specs.Subs.{CastFits}

@@ -2,7 +2,6 @@
 use mathlib.Core.Path.{◌≡◌, ap, sym, ◌∙◌}
 use mathlib.Core.Bool.{Bool}
 use Rattle.base.specs.Choice.{if◌then◌else◌}
-use borrow.Author.Rules.{rules}
 use Rattle.value.specs.declared.Value.{Value}
 use Rattle.value.specs.declared.Value.TheVariants.{Unknown}
 use Rattle.value.specs.Values as Values

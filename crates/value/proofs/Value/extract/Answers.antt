@@ -1,7 +1,6 @@
 -- `Value::extract`: case by case; that the result is sound and has its type are laws. Assumes nothing.
 use mathlib.Core.Path.{◌≡◌, ap, sym, subst, ◌∙◌}
 use Prim.Native.Nat.{◌+◌, ◌-◌}
-use borrow.Author.Rules.{rules}
 use Rattle.value.specs.declared.ValueType.TheVariants.{Imm}
 use Rattle.value.specs.declared.Value.{Value}
 use Rattle.value.specs.declared.Value.TheVariants.{Word}

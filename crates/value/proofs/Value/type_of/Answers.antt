@@ -1,6 +1,5 @@
 -- `Value::type_of`: case by case. Assumes nothing.
 use mathlib.Core.Path.{ap, sym}
-use borrow.Author.Rules.{rules}
 use Rattle.value.specs.Values.{type_of}
 use Rattle.value.proofs.Value.type_of.Goals as goal
 

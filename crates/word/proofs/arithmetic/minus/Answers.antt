@@ -1,5 +1,4 @@
 -- The difference modulo 2 ^ 64, cut to w bits. Assumes nothing.
-use Rattle.std.proofs.Common.{rules}
 use Rattle.word.proofs.ArithmeticLaws.{minus_cut}
 use Rattle.word.proofs.FitLaws.{gives_too}
 use Rattle.word.proofs.arithmetic.minus.Goals as goal

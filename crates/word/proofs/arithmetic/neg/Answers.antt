@@ -1,5 +1,5 @@
 -- Minus from 0. Assumes nothing.
-use Rattle.std.proofs.Common.{ℕ, ◌-◌, ◌%◌, ◌^◌, ap, zero-add, rules}
+use Rattle.std.proofs.Common.{ℕ, ◌-◌, ◌%◌, ◌^◌, ap, zero-add}
 use Rattle.word.proofs.FitLaws.{gives_too}
 use Rattle.word.proofs.arithmetic.neg.Goals as goal
 

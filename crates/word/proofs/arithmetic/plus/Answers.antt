@@ -1,5 +1,5 @@
 -- The sum modulo 2 ^ 64, cut to w bits. Assumes nothing.
-use Rattle.std.proofs.Common.{ℕ, ◌+◌, ◌%◌, ◌^◌, ap, ◌∙◌, rules}
+use Rattle.std.proofs.Common.{ℕ, ◌+◌, ◌%◌, ◌^◌, ap, ◌∙◌}
 use Rattle.word.proofs.FitLaws.{gives_too}
 use Rattle.word.proofs.WidthLaws.{cut_twice}
 use Rattle.word.proofs.arithmetic.plus.Goals as goal

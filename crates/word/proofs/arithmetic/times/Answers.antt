@@ -1,6 +1,6 @@
 -- Each product of two halves fits 64 bits, and the columns summed modulo 2 ^ 64 are the product, since that of the upper
 -- halves lies above. Assumes nothing.
-use Rattle.std.proofs.Common.{shr_lt, rules}
+use Rattle.std.proofs.Common.{shr_lt}
 use lib.Bits.{mask_lt}
 use Rattle.word.proofs.ArithmeticLaws.{product_fits, times_cut}
 use Rattle.word.proofs.FitLaws.{gives_too}

@@ -1,5 +1,5 @@
 -- The upper p of w bits, which fit p. Assumes nothing.
-use Rattle.std.proofs.Common.{refl, rules}
+use Rattle.std.proofs.Common.{refl}
 use Rattle.word.proofs.FitLaws.{gives, high_fits}
 use Rattle.word.proofs.casts.high.Goals as goal
 

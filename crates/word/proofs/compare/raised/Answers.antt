@@ -1,5 +1,5 @@
 -- The sign bit is a word of the width, and is added. Assumes nothing.
-use Rattle.std.proofs.Common.{◌-◌, ◌^◌, ◌<◌, ap, ◌∙◌, arith, rules}
+use Rattle.std.proofs.Common.{◌-◌, ◌^◌, ◌<◌, ap, ◌∙◌, arith}
 use lib.Pow.{pow-lt}
 use Rattle.word.specs.Words as Words
 use Rattle.word.proofs.compare.raised.Goals as goal

@@ -1,5 +1,5 @@
 -- Signed readings are in order as the raised words are. Assumes nothing.
-use Rattle.std.proofs.Common.{ltb, sym, ap, ◌∙◌, ap₂, rules}
+use Rattle.std.proofs.Common.{ltb, sym, ap, ◌∙◌, ap₂}
 use Rattle.word.specs.Words.{bit}
 use Rattle.word.proofs.CompareLaws.{lt_raised}
 use Rattle.word.proofs.FitLaws.{gives_too}

@@ -1,5 +1,5 @@
 -- Of a word below zero the magnitude is its negative, else it is the word. Assumes nothing.
-use Rattle.std.proofs.Common.{true, false, sym, ◌∙◌, rules}
+use Rattle.std.proofs.Common.{true, false, sym, ◌∙◌}
 use Rattle.word.proofs.FitLaws.{gives_too}
 use Rattle.word.proofs.SignedLaws.{abs_is, reading}
 use Rattle.word.proofs.division.magnitude.Goals as goal

@@ -1,5 +1,5 @@
 -- Unknown by zero; else no more than the dividend, so it fits. Assumes nothing.
-use Rattle.std.proofs.Common.{refl, rules}
+use Rattle.std.proofs.Common.{refl}
 use Rattle.word.proofs.FitLaws.{by_nonzero, by_zero, gives, rem_fits}
 use Rattle.word.proofs.division.modulo.Goals as goal
 

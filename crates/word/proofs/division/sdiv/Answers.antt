@@ -1,6 +1,6 @@
 -- By sign and magnitude: the quotient is below zero where the signs differ. A divisor that is not 0 has a magnitude that is not 0.
 -- Assumes nothing.
-use Rattle.std.proofs.Common.{ℕ, ◌/◌, not, sym, ap, ◌∙◌, ap₂, rules}
+use Rattle.std.proofs.Common.{ℕ, ◌/◌, not, sym, ap, ◌∙◌, ap₂}
 use mathlib.Core.Bool.{beq}
 use Rattle.word.specs.Words.{with_sign, word_of}
 use Rattle.word.proofs.DivisionLaws.{quot_with_sign}

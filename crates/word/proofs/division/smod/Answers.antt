@@ -1,5 +1,5 @@
 -- By sign and magnitude: the remainder has the dividend's sign. A divisor that is not 0 has a magnitude that is not 0. Assumes nothing.
-use Rattle.std.proofs.Common.{ℕ, ◌%◌, sym, ap, ◌∙◌, ap₂, rules}
+use Rattle.std.proofs.Common.{ℕ, ◌%◌, sym, ap, ◌∙◌, ap₂}
 use Rattle.word.specs.Words.{signed, with_sign, word_of}
 use Rattle.word.proofs.DivisionLaws.{rem_with_sign}
 use Rattle.word.proofs.FitLaws.{by_nonzero, by_zero, gives_too, rem_fits}

@@ -1,5 +1,4 @@
 -- The upper word shifted past the lower, so that no bits meet. Assumes nothing.
-use Rattle.std.proofs.Common.{rules}
 use Rattle.word.proofs.CastLaws.{concat_is}
 use Rattle.word.proofs.FitLaws.{concat_fits, gives}
 use Rattle.word.proofs.join.concat.Goals as goal

@@ -1,5 +1,5 @@
 -- A word has zeros from bit 64 on. Assumes nothing.
-use Rattle.std.proofs.Common.{◌+◌, ◌-◌, ◌/◌, ◌^◌, sym, lt_of_lt_of_le, pow_mono, rules}
+use Rattle.std.proofs.Common.{◌+◌, ◌-◌, ◌/◌, ◌^◌, sym, lt_of_lt_of_le, pow_mono}
 use Rattle.word.proofs.CastLaws.{extract_wide}
 use Rattle.word.proofs.FitLaws.{gives, mod_fits}
 use Rattle.word.proofs.join.extract.Goals as goal

@@ -1,5 +1,5 @@
 -- The signed reading divided by a power of two: of a word below zero the complement is shifted. Assumes nothing.
-use Rattle.std.proofs.Common.{◌≡◌, ℕ, ◌-◌, ◌^◌, min, Bool, true, false, sym, ap, ◌∙◌, rules}
+use Rattle.std.proofs.Common.{◌≡◌, ℕ, ◌-◌, ◌^◌, min, Bool, true, false, sym, ap, ◌∙◌}
 use lib.Signed.{shr_z}
 use Rattle.base.specs.Choice.{if◌then◌else◌}
 use Rattle.word.specs.Words as Words

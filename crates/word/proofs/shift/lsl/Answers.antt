@@ -1,5 +1,5 @@
 -- Below the width the machine's shift, cut; else zeros. Assumes nothing.
-use Rattle.std.proofs.Common.{◌*◌, ◌^◌, min, sym, ◌∙◌, rules}
+use Rattle.std.proofs.Common.{◌*◌, ◌^◌, min, sym, ◌∙◌}
 use Rattle.word.proofs.FitLaws.{gives, gives_too, mod_fits}
 use Rattle.word.proofs.ShiftLaws.{lsl_narrow, lsl_wide}
 use Rattle.word.proofs.WidthLaws.{cut_twice}

@@ -1,5 +1,4 @@
 -- 64 ones, less the lowest 64 - w. Assumes nothing.
-use Rattle.std.proofs.Common.{rules}
 use Rattle.word.proofs.WidthLaws.{ones_shifted}
 use Rattle.word.proofs.width.mask.Goals as goal
 

@@ -1,5 +1,5 @@
 -- A one, shifted by less than 64. Assumes nothing.
-use Rattle.std.proofs.Common.{◌-◌, arith, rules}
+use Rattle.std.proofs.Common.{◌-◌, arith}
 use Rattle.word.proofs.WidthLaws.{one_shifted}
 use Rattle.word.proofs.width.sign_bit.Goals as goal
 

@@ -1,5 +1,5 @@
 -- The mask keeps the lowest w bits. Assumes nothing.
-use Rattle.std.proofs.Common.{ap, ◌∙◌, rules}
+use Rattle.std.proofs.Common.{ap, ◌∙◌}
 use lib.Bits.{and_mask, bit_and}
 use Rattle.word.proofs.FitLaws.{gives, mod_fits}
 use Rattle.word.proofs.width.trim.Goals as goal
