@@ -1,5 +1,6 @@
 -- Bytes joined in their order as they are read, and the loads that this makes. Assumes nothing.
-use Rattle.std.proofs.Common.{◌≡◌, ℕ, suc, ◌+◌, ◌-◌, ◌*◌, ◌/◌, ◌^◌, ◌<◌, ◌≤◌, Bool, true, false, ltb, List, [], ◌∷◌, ◌++◌, reverse, length, sym, refl, ap, ◌∙◌, append_assoc, append-nil, arith, length-append, pow-add, le-ltb, lt-ltb}
+use Rattle.std.proofs.Common.{◌≡◌, ℕ, suc, ◌+◌, ◌-◌, ◌*◌, ◌/◌, ◌%◌, ◌^◌, ◌<◌, ◌≤◌, Bool, true, false, ltb, List, [], ◌∷◌, ◌++◌, reverse, length, sym, refl, ap, ◌∙◌, append_assoc, append-nil, arith, length-append, pow-add, pow_mono, shl_exact, le-ltb, lt-ltb}
+use native.Mathlib.Nat.{mul-le-mul_right}
 use mathlib.Core.List.{reverse-cons, reverse-append}
 use mathlib.Core.Option.{Option, none, some}
 use Rattle.base.specs.Choice.{if◌then◌else◌}
@@ -49,6 +50,20 @@ join_unknown [] q b k = go (join q)
 join_unknown (x ∷ p) q b k = rw (join_unknown p q b k, join)
 
 -- ------------------------------------------------------------------------------------------------
+-- The room of eight bytes
+
+-- below 2^56 where a byte follows
+pub bytes_below : (i : ℕ) → i < 8 → 2 ^ (8 * i) ≤ 2 ^ 56
+bytes_below i h = pow_mono {i = 8 * i} {j = 56} (omega arith)
+
+-- a byte above i others, and they
+pub byte_above : (b i : ℕ) → b < unknown_byte → i < 8 → b * 2 ^ (8 * i) + 2 ^ (8 * i) ≤ 2 ^ 64
+byte_above b i k h =
+    let most = bytes_below i h in
+    let whole = mul-le-mul_right {m = b + 1} {n = 256} (2 ^ (8 * i)) (omega arith) in
+    omega arith
+
+-- ------------------------------------------------------------------------------------------------
 -- In either order
 
 -- the last byte read is the lowest of a big word
@@ -65,6 +80,15 @@ joins_big i v b k = record {
 pub joins_little : (i v b : ℕ) → b < unknown_byte → Joins false i v b (b * 2 ^ (8 * i) + v)
 unfolding in_order
 joins_little i v b k = record { is = λ bytes n e. join_high bytes v b k e ∙ ap (λ (m : ℕ). some (b * 2 ^ (8 * m) + v)) n }
+
+-- as they are computed, eight bytes at most
+pub joins_first : (big : Bool) (i v b : ℕ) → b < unknown_byte → big ≡ true → Joins big i v b (v * 256 + b)
+joins_first big i v b k e = rw e (joins_big i v b k)
+
+pub joins_last : (big : Bool) (i v b : ℕ) → b < unknown_byte → i < 8 → big ≡ false → Joins big i v b (b * 2 ^ (8 * i) % 2 ^ 64 + v)
+joins_last big i v b k h e =
+    let none_lost : b * 2 ^ (8 * i) % 2 ^ 64 ≡ b * 2 ^ (8 * i) = shl_exact {a = b} 8 (8 * i) 64 k (omega arith) in
+    rw (e, none_lost) (joins_little i v b k)
 
 order_unknown : (big : Bool) (p q : List ℕ) (b : ℕ) → unknown_byte ≤ b → join (in_order big (p ++ (b ∷ q))) ≡ none
 unfolding in_order

@@ -16,6 +16,7 @@ use memory::UNKNOWN_BYTE;
 use value::{Value, ValueType};
 
 // The word that i bytes make with one more: above them where the low byte comes first, else below them.
+#[tactic(auto, using(crate::proofs::JoinLaws::bytes_below, crate::proofs::JoinLaws::byte_above, crate::proofs::JoinLaws::joins_first, crate::proofs::JoinLaws::joins_last))]
 fn with_byte(big: bool, i: u32, v: u64, b: u64) -> u64
     requires i_bound { i < 8 }
     requires v_bound { v < 2 ^ (8 * i) }
