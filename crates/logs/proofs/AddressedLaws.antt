@@ -16,20 +16,20 @@ module _ {L : Log} {w head : ℕ} {m a : Value} (h : Addressed L m a) (is-memory
   head_most = (rw is-memory at h.memory.head).link.most
 
   pub address_fits : {v x : ℕ} → a ≡ Word v x → IsWord w x
-  address_fits {v} is_IsWord =
+  address_fits {v} is_word =
       let p : Mem w ≡ Mem h.width = rw is-memory at h.memory.type in
-      let q : Imm v ≡ Imm h.width = rw is_IsWord at h.address.type in
+      let q : Imm v ≡ Imm h.width = rw is_word at h.address.type in
       let same : v ≡ w = cc in
-      rw same at (rw is_IsWord at h.address.sound)
+      rw same at (rw is_word at h.address.sound)
 
 -- an address that is a word, of the memory's width
-module _ {L : Log} {w x : ℕ} {m a : Value} (h : Addressed L m a) (is_IsWord : a ≡ Word w x) where
+module _ {L : Log} {w x : ℕ} {m a : Value} (h : Addressed L m a) (is_word : a ≡ Word w x) where
   pub word_fits : IsWord w x
-  word_fits = rw is_IsWord at h.address.sound
+  word_fits = rw is_word at h.address.sound
 
   pub memory_size : size (type_of m) ≡ w
   memory_size =
-      let q : Imm w ≡ Imm h.width = rw is_IsWord at h.address.type in
+      let q : Imm w ≡ Imm h.width = rw is_word at h.address.type in
       let same : h.width ≡ w = cc in
       ap size h.memory.type ∙ same
 
