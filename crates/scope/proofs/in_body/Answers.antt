@@ -1,5 +1,5 @@
 -- `in_body`: from the expression reached the climb goes on to the nearest let in whose body it stands. Assumes nothing.
-use mathlib.Core.Path.{◌≡◌, refl, sym, ap, ◌∙◌}
+use mathlib.Core.Path.{◌≡◌, sym, ap, ◌∙◌}
 use Prim.Native.Nat.{◌-◌}
 use native.Mathlib.Omega.{arith}
 use lib.ListN.{get_or}
@@ -7,9 +7,6 @@ use Rattle.table.specs.declared.Node.{Node}
 use Rattle.table.specs.Bytes.{expression}
 use Rattle.scope.proofs.NearestLaws.{in_none, leads, leads_found, leads_on}
 use Rattle.scope.proofs.in_body.Goals as goal
-
-pub loop-k-init : goal.loop-k-init
-loop-k-init c = (omega arith, c.requires.i_lt_expressions, refl)
 
 pub returns-then-r-x : goal.returns-then-r-x
 returns-then-r-x c =
@@ -50,11 +47,8 @@ overflow_cast-m c =
     let some : get_or c.args.lets.now l.k 0 ≡ 0 → ⊥ = λ e. omega arith in
     omega (arith, (leads c.requires.framed c.requires.nearest_from l.invariant.0 l.invariant.1 some).0, c.requires.framed.expressions)
 
-pub expression-r-requires : goal.expression-r-requires
-expression-r-requires c =
+pub expression-r-requires-clause-i_lt_expressions : goal.expression-r-requires-clause-i_lt_expressions
+expression-r-requires-clause-i_lt_expressions c =
     let l = c.loop-k in
     let some : get_or c.args.lets.now l.k 0 ≡ 0 → ⊥ = λ e. omega arith in
-    record {
-      framed = c.requires.framed;
-      i_lt_expressions = (leads c.requires.framed c.requires.nearest_from l.invariant.0 l.invariant.1 some).0;
-    }
+    (leads c.requires.framed c.requires.nearest_from l.invariant.0 l.invariant.1 some).0

@@ -18,10 +18,10 @@ returns-then-r-ne-VAR c =
     let no-var : c.args.r.op ≡ 1 → ⊥ = λ e. omega arith in
     sym (scope_other c.args.s.now c.args.i c.requires.r_value no-let no-var)
 
-pub variable-v-requires : goal.variable-v-requires
-variable-v-requires c =
+pub variable-v-requires-clause-i_lt_variables : goal.variable-v-requires-clause-i_lt_variables
+variable-v-requires-clause-i_lt_variables c =
     let is : c.args.r.op ≡ 1 = omega arith in
-    record { framed = c.requires.framed; i_lt_variables = var_counted c.requires.framed c.requires.records_hold c.requires.i_lt_expressions c.requires.r_value is }
+    var_counted c.requires.framed c.requires.records_hold c.requires.i_lt_expressions c.requires.r_value is
 
 pub returns-then-v-ne-ROLE_LET : goal.returns-then-v-ne-ROLE_LET
 returns-then-v-ne-ROLE_LET c =

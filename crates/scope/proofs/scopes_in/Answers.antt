@@ -1,5 +1,5 @@
--- `scopes_in`: the invariant is that what no expression below i uses has its nearest let, and that the lowest place so far that breaks
--- the rule is noted; the measure is i. Assumes nothing.
+-- `scopes_in`: a turn hands the nearest let down and notes the place where the rule fails; in the end the lowest such place is noted.
+-- Assumes nothing.
 use mathlib.Core.Path.{refl, ap, sym, ◌∙◌}
 use Prim.Native.Nat.{◌-◌, ◌≤◌, ◌<◌}
 use native.Mathlib.Omega.{arith}
@@ -16,31 +16,18 @@ loop-i-init c =
     let all = ap (λ (h : Header). h.expressions) c.requires.framed.is in
     (omega arith, refl, search_starts c.args.s.now c.requires.records_hold _ all c.requires.expressions_in_bounds c.requires.lets_value)
 
-pub expression-r-requires : goal.expression-r-requires
-expression-r-requires c =
-    let all = ap (λ (h : Header). h.expressions) c.requires.framed.is in
-    let most = c.loop-i.invariant.0 in
-    record { framed = c.requires.framed; i_lt_expressions = omega arith }
+pub in_scope-requires-clause-nearest_from : goal.in_scope-requires-clause-nearest_from
+in_scope-requires-clause-nearest_from c =
+    let l = c.loop-i in
+    search_near c.args.s.now c.requires.records_hold (l.i - 1) (omega arith) l.invariant.2 l.invariant.0
 
-pub in_scope-requires : goal.in_scope-requires
-in_scope-requires c =
+pub hand_down-requires-clause-all_below : goal.hand_down-requires-clause-all_below
+hand_down-requires-clause-all_below c =
     let l = c.loop-i in
     let all = ap (λ (h : Header). h.expressions) c.requires.framed.is in
-    let most = l.invariant.0 in
-    let taken = c.loop-i-test.true in
-    let near = search_near c.args.s.now c.requires.records_hold (l.i - 1) (omega arith) l.invariant.2 most in
-    record { framed = c.requires.framed; records_hold = c.requires.records_hold; i_lt_expressions = omega arith; expressions_in_bounds = rw l.invariant.1 c.requires.expressions_in_bounds; nearest_from = near; r_value = c.expression-r.ensures }
-
-pub hand_down-requires : goal.hand_down-requires
-hand_down-requires c =
-    let l = c.loop-i in
-    let all = ap (λ (h : Header). h.expressions) c.requires.framed.is in
-    let most = l.invariant.0 in
-    let limit = c.requires.framed.expressions in
-    let taken = c.loop-i-test.true in
     let named = operands_named c.args.s.now (l.i - 1) refl c.expression-r.ensures in
     let below = widened {m = length c.args.lets.now} (earlier c.requires.framed c.requires.records_hold (l.i - 1) (omega arith)) (omega arith) in
-    record { i_lt_most_expressions = omega arith; i_in_bounds = rw l.invariant.1 (omega arith); all_below = rw (l.invariant.1, named) below }
+    rw (l.invariant.1, named) below
 
 pub loop-i-preserved : goal.loop-i-preserved
 loop-i-preserved c =

@@ -1,5 +1,5 @@
 -- `rules::forest_ok`: one rule after the other, each asked where those before it hold. Assumes nothing.
-use mathlib.Core.Path.{◌≡◌, sym, ◌∙◌}
+use mathlib.Core.Path.{◌≡◌}
 use mathlib.Core.List.{List, [], ◌∷◌}
 use Prim.Native.Nat.{ℕ}
 use Rattle.base.specs.Refusals.{refusal}
@@ -18,10 +18,6 @@ past-uses s = answers_next (use_rule s ∷ []) (depth_rule s ∷ nesting_rule s 
 past-depths : (s : List ℕ) {r x : Answer} → r ≡ refusal (depth_rule s ∷ []) → r ≡ Accepted
     → x ≡ refusal (nesting_rule s ∷ scope_rule s ∷ []) → x ≡ refusal (depth_rule s ∷ nesting_rule s ∷ scope_rule s ∷ [])
 past-depths s = answers_next (depth_rule s ∷ []) (nesting_rule s ∷ scope_rule s ∷ [])
-
-pub scopes_ok-requires : goal.scopes_ok-requires
-scopes_ok-requires c =
-    record { framed = c.requires.framed; records_hold = c.requires.records_hold; s_value = sym c.uses_once.ensures ∙ c.in-Accepted.is }
 
 pub returns-in-Refused : goal.returns-in-Refused
 unfolding forest_rules
