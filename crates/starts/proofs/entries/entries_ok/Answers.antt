@@ -2,16 +2,12 @@
 -- the count. Assumes nothing.
 use mathlib.Core.Path.{refl}
 use mathlib.Core.List.{List}
-use Prim.Native.Nat.{ℕ, zero, suc, ◌≤◌, ◌-◌}
+use Prim.Native.Nat.{ℕ, zero, suc}
 use native.Mathlib.Omega.{arith}
-use borrow.Author.Rules.{rules}
 use Rattle.base.specs.Refusals.{HoldsBelow}
-use Rattle.base.proofs.PassedLaws as Places
 use Rattle.base.proofs.PassedLaws.{one_passed, refuses, accepts}
 use Rattle.memory.specs.Log.{entries, newest_ok}
-use Rattle.running.specs.Start.{entry_rule}
 use Rattle.starts.proofs.entries.entries_ok.Goals as goal
-use Rattle.starts.proofs.entries.entries_ok.Invariants.{Passed}
 
 -- the empty log keeps its rules
 empty_holds : (l : List ℕ) → HoldsBelow (λ n. newest_ok (entries l n)) 1

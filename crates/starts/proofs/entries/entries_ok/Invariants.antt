@@ -1,14 +1,9 @@
 -- `entries::entries_ok`: the invariant is that the rule holds at the empty log and at every entry passed, the measure what is left of
 -- the count. Assumes nothing.
-use mathlib.Core.Path.{refl}
 use mathlib.Core.List.{List}
-use Prim.Native.Nat.{ℕ, zero, suc, ◌≤◌, ◌-◌}
-use native.Mathlib.Omega.{arith}
-use borrow.Author.Rules.{rules}
-use Rattle.base.specs.Refusals.{HoldsBelow}
+use Prim.Native.Nat.{ℕ, suc, ◌≤◌, ◌-◌}
 use Rattle.base.proofs.PassedLaws as Places
 use Rattle.base.proofs.PassedLaws.{one_passed, refuses, accepts}
-use Rattle.memory.specs.Log.{entries, newest_ok}
 use Rattle.running.specs.Start.{entry_rule}
 use Rattle.starts.proofs.entries.entries_ok.Given as goal
 

@@ -2,7 +2,6 @@
 use mathlib.Core.Path.{◌≡◌, sym, ◌∙◌}
 use Prim.Native.Nat.{◌-◌}
 use native.Mathlib.Omega.{arith}
-use borrow.Author.Rules.{rules}
 use Rattle.base.proofs.BoolLaws.{passed, failed, fails_here, goes_on}
 use Rattle.memory.specs.Log.{entries}
 use Rattle.starts.proofs.EntryLaws.{in_limits, linked, newest_regrouped}

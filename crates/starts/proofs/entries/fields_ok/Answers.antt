@@ -1,6 +1,5 @@
 -- `entries::fields_ok`: the first test that fails decides, and the last one where none does. Assumes nothing.
 use mathlib.Core.Path.{refl, sym}
-use borrow.Author.Rules.{rules}
 use borrow.Author.Tests.{le-leb, lt-leb}
 use Rattle.base.proofs.BoolLaws.{passed, failed, and_both, fails_here, goes_on}
 use Rattle.starts.proofs.entries.fields_ok.Goals as goal
@@ -17,10 +16,10 @@ pub returns-then-not-fits : goal.returns-then-not-fits
 returns-then-not-fits c =
     let w = c.args.width in
     goes_on (and_both (le-leb 1 w c.if-width-lt1.false) (le-leb w 64 c.if-width-gt64.false))
-    (fails_here _ (failed c.before.fits2.ensures c.if-not-fits.true))
+    (fails_here _ (failed c.before.fits.ensures c.if-not-fits.true))
 
 pub returns : goal.returns
 returns c =
     let w = c.args.width in
     goes_on (and_both (le-leb 1 w c.if-width-lt1.false) (le-leb w 64 c.if-width-gt64.false))
-    (goes_on (passed c.before.fits2.ensures c.if-not-fits.false) refl)
+    (goes_on (passed c.before.fits.ensures c.if-not-fits.false) refl)

@@ -3,7 +3,6 @@ use mathlib.Core.Path.{◌≡◌}
 use mathlib.Core.Bool.{◌&&◌}
 use native.Mathlib.Omega.{arith}
 use lib.Dec.{eqb}
-use borrow.Author.Rules.{rules}
 use borrow.Author.Tests.{le-leb, ne_eqb}
 use Rattle.base.specs.Choice.{within}
 use Rattle.memory.specs.Log.{entries, width_at}

@@ -6,34 +6,22 @@ use Prim.Native.Nat.{ℕ, ◌*◌, ◌%◌, ◌^◌, ◌≤◌, ◌<◌}
 use native.Mathlib.Omega.{arith}
 use lib.Dec.{eqb, leb, ltb}
 use lib.ListN.{length}
-use borrow.Author.Rules.{rules}
 use borrow.Author.Tests.{eq-eqb, ne_eqb, le-leb, lt-leb}
 use Rattle.base.proofs.BoolLaws.{passed, failed, and_both, fails_here, goes_on}
 use Rattle.table.specs.declared.Header.{Header}
-use Rattle.table.specs.Bytes.{header}
 use Rattle.memory.specs.Log.{entry_size}
 use Rattle.running.specs.Start.{Start, numbers_ok, room_of, most_entries}
 use Rattle.starts.specs.Lent.{lent}
 use Rattle.starts.proofs.NumberLaws.{none, one, numbers_refused, numbers_pass}
 use Rattle.starts.proofs.rules.numbers.Goals as goal
-use Rattle.starts.proofs.rules.numbers.Lts
-use Rattle.starts.proofs.rules.numbers.Tie
-use Rattle.starts.proofs.rules.numbers.Reads
-
-abbrev Start : Type 0
-Start = Lts.Start Tie.the-claims Reads.Pre Reads.Post
-
-abbrev start : Start → List ℕ → ℕ → Start
-start s table budget = lent table s.args.state.now s.args.log.now s.args.count s.args.next budget
 
 -- the tests that ask the header, of the table whose header it is
-module _ (s : Start) (table : List ℕ) (is : s.args.h ≡ header table) where
-  state-test : {t : Bool} → eqb (length s.args.state.now) (2 * s.args.h.variables) ≡ t
-      → eqb (length s.args.state.now) (2 * (header table).variables) ≡ t
-  state-test e = ap (λ (h : Header). eqb (length s.args.state.now) (2 * h.variables)) (sym is) ∙ e
+state-test : {h h' : Header} {t : Bool} (state : List ℕ) → h ≡ h' → eqb (length state) (2 * h.variables) ≡ t
+    → eqb (length state) (2 * h'.variables) ≡ t
+state-test state is e = ap (λ (h : Header). eqb (length state) (2 * h.variables)) (sym is) ∙ e
 
-  next-test : {t : Bool} → ltb s.args.next (2 ^ s.args.h.width) ≡ t → ltb s.args.next (2 ^ (header table).width) ≡ t
-  next-test e = ap (λ (h : Header). ltb s.args.next (2 ^ h.width)) (sym is) ∙ e
+next-test : {h h' : Header} {t : Bool} (next : ℕ) → h ≡ h' → ltb next (2 ^ h.width) ≡ t → ltb next (2 ^ h'.width) ≡ t
+next-test next is e = ap (λ (h : Header). ltb next (2 ^ h.width)) (sym is) ∙ e
 
 log-fits : (s : Start) → length s.log % entry_size ≡ 0 → room_of s ≤ most_entries
     → (eqb (length s.log % entry_size) 0 && leb (room_of s) most_entries) ≡ true
@@ -42,51 +30,51 @@ log-fits s a b = and_both (eq-eqb _ _ a) (le-leb _ _ b)
 pub returns-then-state-h : goal.returns-then-state-h
 unfolding numbers_ok
 returns-then-state-h c table budget is =
-    let s = c.before.before.before.before.before in
-    numbers_refused (start s table budget) 0 (omega arith) none (state-test s table is (ne_eqb _ _ c.if-state-h.true))
+    let a = c.args in
+    numbers_refused (lent table a.state.now a.log.now a.count a.next budget) 0 (omega arith) none (state-test a.state.now is (ne_eqb _ _ c.if-state-h.true))
 
 pub returns-then-log-ne0 : goal.returns-then-log-ne0
 unfolding numbers_ok
 returns-then-log-ne0 c table budget is =
-    let s = c.before.before.before.before.before.before in
-    numbers_refused (start s table budget) 1 (omega arith) (one (state-test s table is (eq-eqb _ _ c.if-state-h.false)) none)
+    let a = c.args in
+    numbers_refused (lent table a.state.now a.log.now a.count a.next budget) 1 (omega arith) (one (state-test a.state.now is (eq-eqb _ _ c.if-state-h.false)) none)
     (sym (fails_here _ (ne_eqb _ _ c.if-log-ne0.true)))
 
 pub returns-then-room-gt-MOST_ENTRIES : goal.returns-then-room-gt-MOST_ENTRIES
 unfolding numbers_ok
 returns-then-room-gt-MOST_ENTRIES c table budget is =
-    let s = c.before.before.before.before.before.before.before in
-    let t = start s table budget in
+    let a = c.args in
+    let t = lent table a.state.now a.log.now a.count a.next budget in
     let over : most_entries < room_of t = omega (arith, c.if-room-gt-MOST_ENTRIES.true) in
-    numbers_refused t 1 (omega arith) (one (state-test s table is (eq-eqb _ _ c.if-state-h.false)) none)
+    numbers_refused t 1 (omega arith) (one (state-test a.state.now is (eq-eqb _ _ c.if-state-h.false)) none)
     (sym (goes_on (eq-eqb _ _ c.if-log-ne0.false) (sym (lt-leb (room_of t) most_entries over))))
 
 pub returns-then-room-count : goal.returns-then-room-count
 unfolding numbers_ok
 returns-then-room-count c table budget is =
-    let s = c.before.before.before.before.before.before.before.before in
-    let t = start s table budget in
+    let a = c.args in
+    let t = lent table a.state.now a.log.now a.count a.next budget in
     let over : room_of t < t.count = omega (arith, c.if-room-count.true) in
     numbers_refused t 2 (omega arith)
-    (one (state-test s table is (eq-eqb _ _ c.if-state-h.false)) (one (log-fits t c.if-log-ne0.false c.if-room-gt-MOST_ENTRIES.false) none))
+    (one (state-test a.state.now is (eq-eqb _ _ c.if-state-h.false)) (one (log-fits t c.if-log-ne0.false c.if-room-gt-MOST_ENTRIES.false) none))
     (lt-leb t.count (room_of t) over)
 
 pub returns-then-not-fits : goal.returns-then-not-fits
 unfolding numbers_ok
 returns-then-not-fits c table budget is =
-    let s = c.before.before.before.before.before.before.before.before.before.before in
-    let t = start s table budget in
+    let a = c.args in
+    let t = lent table a.state.now a.log.now a.count a.next budget in
     numbers_refused t 3 (omega arith)
-    (one (state-test s table is (eq-eqb _ _ c.if-state-h.false))
+    (one (state-test a.state.now is (eq-eqb _ _ c.if-state-h.false))
     (one (log-fits t c.if-log-ne0.false c.if-room-gt-MOST_ENTRIES.false) (one (le-leb t.count (room_of t) c.if-room-count.false) none)))
-    (next-test s table is (failed c.before.fits2.ensures c.if-not-fits.true))
+    (next-test a.next is (failed c.fits.ensures c.if-not-fits.true))
 
 pub returns : goal.returns
 unfolding numbers_ok
 returns c table budget is =
-    let s = c.before.before.before.before.before.before.before.before.before.before in
-    let t = start s table budget in
+    let a = c.args in
+    let t = lent table a.state.now a.log.now a.count a.next budget in
     numbers_pass t
-    (one (state-test s table is (eq-eqb _ _ c.if-state-h.false))
+    (one (state-test a.state.now is (eq-eqb _ _ c.if-state-h.false))
     (one (log-fits t c.if-log-ne0.false c.if-room-gt-MOST_ENTRIES.false)
-    (one (le-leb t.count (room_of t) c.if-room-count.false) (one (next-test s table is (passed c.before.fits2.ensures c.if-not-fits.false)) none))))
+    (one (le-leb t.count (room_of t) c.if-room-count.false) (one (next-test a.next is (passed c.fits.ensures c.if-not-fits.false)) none))))

@@ -1,9 +1,8 @@
 -- `rules::starts_ok`: one rule after the other, each asked where those before it hold. Assumes nothing.
 use mathlib.Core.Path.{◌≡◌, sym, ap, ◌∙◌}
 use mathlib.Core.List.{[], ◌∷◌}
-use Prim.Native.Nat.{ℕ, ◌*◌}
+use Prim.Native.Nat.{◌*◌}
 use native.Mathlib.Omega.{arith}
-use borrow.Author.Rules.{rules}
 use Rattle.base.specs.Refusals.{Rule, refusal}
 use Rattle.base.specs.declared.Answer.{Answer}
 use Rattle.base.specs.declared.Answer.TheVariants.{Accepted}
@@ -14,15 +13,6 @@ use Rattle.running.proofs.StartKeeps.{Numbers}
 use Rattle.starts.specs.Lent.{lent}
 use Rattle.starts.proofs.NumberLaws.{numbers_accepted}
 use Rattle.starts.proofs.rules.starts_ok.Goals as goal
-use Rattle.starts.proofs.rules.starts_ok.Lts
-use Rattle.starts.proofs.rules.starts_ok.Tie
-use Rattle.starts.proofs.rules.starts_ok.Reads
-
-abbrev Start : Type 0
-Start = Lts.Start Tie.the-claims Reads.Pre Reads.Post Tie.handed_clauses
-
-abbrev start : Start → ℕ → Start
-start s budget = lent s.args.table.now s.args.state.now s.args.log.now s.args.count s.args.next budget
 
 abbrev entry_of : Start → Rule
 entry_of t = entry_rule t.log t.count
@@ -38,38 +28,38 @@ past t = answers_next (numbers_rule t ∷ []) (entry_of t ∷ pairsOf t ∷ [])
 
 pub entries_ok-requires : goal.entries_ok-requires
 entries_ok-requires c =
-    let s = c.before.before.before.before.before.before in
-    let fit : Numbers (start s 0) =
-    numbers_accepted (start s 0) (c.numbers.ensures s.args.table.now 0 s.requires.is) c.in-Accepted.is in
+    let a = c.args in
+    let fit : Numbers (lent a.table.now a.state.now a.log.now a.count a.next 0) =
+    numbers_accepted (lent a.table.now a.state.now a.log.now a.count a.next 0) (c.numbers.ensures a.table.now 0 c.requires.is) c.in-Accepted.is in
     let room = fit.room in
     let count = fit.count in
     record { count_in_bounds = omega arith; count_le_most_entries = omega arith }
 
 pub pairs_ok-requires : goal.pairs_ok-requires
 pairs_ok-requires c =
-    let s = c.before.before.before.before.before.before.before.before in
-    let fit : Numbers (start s 0) =
-    numbers_accepted (start s 0) (c.numbers.ensures s.args.table.now 0 s.requires.is) c.in-Accepted.is in
+    let a = c.args in
+    let fit : Numbers (lent a.table.now a.state.now a.log.now a.count a.next 0) =
+    numbers_accepted (lent a.table.now a.state.now a.log.now a.count a.next 0) (c.numbers.ensures a.table.now 0 c.requires.is) c.in-Accepted.is in
     let count = fit.count in
-    record { framed = s.requires; state_len = fit.state ∙ ap (λ (h : Header). 2 * h.variables) (sym s.requires.is); count_in_bounds = omega arith }
+    record { framed = c.requires; state_len = fit.state ∙ ap (λ (h : Header). 2 * h.variables) (sym c.requires.is); count_in_bounds = omega arith }
 
 pub returns-in-Refused : goal.returns-in-Refused
 unfolding start_rules
 returns-in-Refused c budget =
-    let s = c.before.before.before.before.before.before in
-    let t = start s budget in
-    refuses_here (numbers_rule t ∷ []) (entry_of t ∷ pairsOf t ∷ []) (c.numbers.ensures t.table budget s.requires.is) c.in-Refused.is
+    let a = c.args in
+    let t = lent a.table.now a.state.now a.log.now a.count a.next budget in
+    refuses_here (numbers_rule t ∷ []) (entry_of t ∷ pairsOf t ∷ []) (c.numbers.ensures t.table budget c.requires.is) c.in-Refused.is
 
 pub returns-in-Refused-entries_ok : goal.returns-in-Refused-entries_ok
 returns-in-Refused-entries_ok c budget =
-    let s = c.before.before.before.before.before.before.before.before in
-    let t = start s budget in
-    past t (c.numbers.ensures t.table budget s.requires.is) c.in-Accepted.is
+    let a = c.args in
+    let t = lent a.table.now a.state.now a.log.now a.count a.next budget in
+    past t (c.numbers.ensures t.table budget c.requires.is) c.in-Accepted.is
     (refuses_here (entry_of t ∷ []) (pairsOf t ∷ []) c.entries_ok.ensures c.in-Refused-entries_ok.is)
 
 pub returns-in-Accepted-entries_ok : goal.returns-in-Accepted-entries_ok
 returns-in-Accepted-entries_ok c budget =
-    let s = c.before.before.before.before.before.before.before.before.before in
-    let t = start s budget in
-    past t (c.numbers.ensures t.table budget s.requires.is) c.in-Accepted.is
+    let a = c.args in
+    let t = lent a.table.now a.state.now a.log.now a.count a.next budget in
+    past t (c.numbers.ensures t.table budget c.requires.is) c.in-Accepted.is
     (answers_next (entry_of t ∷ []) (pairsOf t ∷ []) c.entries_ok.ensures c.in-Accepted-entries_ok.is c.pairs_ok.ensures)
