@@ -1,6 +1,5 @@
 -- What `bilrun` prints for a table's bytes. Assumes nothing.
 use Rattle.std.specs.Prelude.{List, [], ◌++◌, ℕ, ◌*◌, replicate}
-use Rattle.base.specs.declared.Answer.{Answer}
 use Rattle.base.specs.declared.Answer.TheVariants.{Accepted, Refused}
 use Rattle.base.specs.Refusals as Refusals
 use Rattle.table.specs.Bytes.{header}
