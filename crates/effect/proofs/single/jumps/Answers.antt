@@ -6,17 +6,17 @@ use Rattle.effect.proofs.single.jumps.Goals as goal
 
 pub whole-v-requires : goal.whole-v-requires
 whole-v-requires c =
-    let p = (c.requires.running, (c.requires.standing, (c.requires.r_value, c.requires.op_value))) in
-    record { ready = ready p.0; i_bound = jump_asks p.0 p.1.0 p.1.1.0 p.1.1.1 }
+    let p = c.requires in
+    record { ready = ready p.running; i_bound = jump_asks p.running p.standing p.r_value p.op_value }
 
 pub returns-in-Of : goal.returns-in-Of
 returns-in-Of c =
-    let p = (c.requires.running, (c.requires.standing, (c.requires.r_value, c.requires.op_value))) in
-    jumps_on p.0 p.1.0 p.1.1.0 p.1.1.1 c.whole-v.ensures c.args.ticks
+    let p = c.requires in
+    jumps_on p.running p.standing p.r_value p.op_value c.whole-v.ensures c.args.ticks
     c.in-Of.is c.jumps_to.ensures
 
 pub returns-in-Stopped : goal.returns-in-Stopped
 returns-in-Stopped c =
-    let p = (c.requires.running, (c.requires.standing, (c.requires.r_value, c.requires.op_value))) in
-    jumps_not p.0 p.1.0 p.1.1.0 p.1.1.1 c.whole-v.ensures c.args.ticks
+    let p = c.requires in
+    jumps_not p.running p.standing p.r_value p.op_value c.whole-v.ensures c.args.ticks
     c.in-Stopped.is c.stops_at.ensures

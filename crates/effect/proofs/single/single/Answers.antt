@@ -5,18 +5,18 @@ use Rattle.effect.proofs.single.single.Goals as goal
 
 pub moves-requires : goal.moves-requires
 moves-requires c =
-    let p = (c.requires.running, (c.requires.standing, (c.requires.r_value, c.requires.fact))) in
-    record { running = p.0; standing = p.1.0; r_value = p.1.1.0; op_value = c.in-1.is }
+    let p = c.requires in
+    record { running = p.running; standing = p.standing; r_value = p.r_value; op_value = c.in-1.is }
 
 pub jumps-requires : goal.jumps-requires
 jumps-requires c =
-    let p = (c.requires.running, (c.requires.standing, (c.requires.r_value, c.requires.fact))) in
-    record { running = p.0; standing = p.1.0; r_value = p.1.1.0; op_value = c.in-2.is }
+    let p = c.requires in
+    record { running = p.running; standing = p.standing; r_value = p.r_value; op_value = c.in-2.is }
 
 pub returns-in_default : goal.returns-in_default
 returns-in_default c =
-    let p = (c.requires.running, (c.requires.standing, (c.requires.r_value, c.requires.fact))) in
-    passes p.0 p.1.0 p.1.1.0 c.args.ticks c.in_default.in_default-own.rest.0.1 c.in_default.in_default-own.rest.1 p.1.1.1.0 p.1.1.1.1
+    let p = c.requires in
+    passes p.running p.standing p.r_value c.args.ticks c.in_default.in_default-own.rest.0.1 c.in_default.in_default-own.rest.1 p.fact.0 p.fact.1
     c.goes_on.ensures
 
 pub returns-in-1 : goal.returns-in-1
