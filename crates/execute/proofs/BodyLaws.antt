@@ -32,7 +32,7 @@ use Rattle.effect.proofs.AloneLaws.{run_end}
 use Rattle.execute.specs.Extent.{bodies_of}
 use Rattle.execute.proofs.ThenLaws.{then_end}
 use Rattle.execute.proofs.SplitLaws.{no_tick}
-use Rattle.execute.proofs.EndedLaws.{Halts, ended, Came, comes_to_end}
+use Rattle.execute.proofs.EndedLaws.{Halts, ended, Came, came_first, comes_to_end}
 use Rattle.execute.proofs.LoopLaws.{done_then, halted_then}
 use Rattle.execute.proofs.TestLaws.{guarded, test_holds, test_fails, test_stops}
 
@@ -162,6 +162,19 @@ pub record Begun (op : ℕ) (s l₀ : List ℕ) (n₀ t₀ : ℕ) (whole : Left)
   pub came : Came s l₀ n₀ t₀ whole (block_at s i (suc (bodies_of r))) σ l n a t
   pub some : 0 < t
   pub tested : TestLeaves l (evaluated s σ l n r.a) g m
+
+-- where an if's guard was tested, from the start
+pub if_begun : {s σ l : List ℕ} {n a t i : ℕ} {r : Node} {g : Tested} {m : List ℕ} → Running s σ l n a → Standing s i → r ≡ statement s i → r.op ≡ 6
+    → (t ≡ 0 → ⊥) → TestLeaves l (evaluated s σ l n r.a) g m
+    → Begun 6 s l n t (runs s σ l n a t (block_at s i (suc (bodies_of r)))) i r σ l n a t g m
+if_begun {s} {t = t} {i = i} {r = r} here at is op some tested =
+    record { at = at; is = is; by = op; came = came_first t (block_at s i (suc (bodies_of r))) here; some = omega arith; tested = tested }
+
+-- where a while's guard was tested, at a turn
+pub turn_begun : {s l₀ σ l : List ℕ} {n₀ t₀ n a t i : ℕ} {whole : Left} {r : Node} {g : Tested} {m : List ℕ} → Standing s i → r ≡ statement s i
+    → r.op ≡ 5 → Came s l₀ n₀ t₀ whole (block_at s i (suc (bodies_of r))) σ l n a t → 0 < t → TestLeaves l (evaluated s σ l n r.a) g m
+    → Begun 5 s l₀ n₀ t₀ whole i r σ l n a t g m
+turn_begun at is op came some tested = record { at = at; is = is; by = op; came = came; some = some; tested = tested }
 
 module _ {op : ℕ} {s l₀ : List ℕ} {n₀ t₀ : ℕ} {whole : Left} {i : ℕ} {r : Node} {σ l : List ℕ} {n a t : ℕ} {g : Tested} {m : List ℕ}
     (h : Begun op s l₀ n₀ t₀ whole i r σ l n a t g m) where

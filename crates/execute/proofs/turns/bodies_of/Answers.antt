@@ -36,4 +36,4 @@ pub returns-in_default : goal.returns-in_default
 returns-in_default c =
     let r = c.args.r in
     sym
-    (ap₂ (λ (u v : Bool). (if u || v then r.b else 0) + (if v then r.c else 0)) (ne_eqb r.op 5 c.in_default.in_default-own.rest.0.1) (ne_eqb r.op 6 c.in-5.rest.1))
+    (ap₂ (λ (u v : Bool). (if u || v then r.b else 0) + (if v then r.c else 0)) (ne_eqb r.op 5 c.in_default.in_default-own.rest.0.1) (ne_eqb r.op 6 c.in_default.in_default-own.rest.1))
