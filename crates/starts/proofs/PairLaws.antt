@@ -8,6 +8,7 @@ use borrow.Author.Tests.{ne_eqb}
 use Rattle.base.specs.Choice.{within}
 use Rattle.table.specs.declared.Variable.{Variable}
 use Rattle.memory.specs.Log.{Log, width_at}
+use Rattle.memory.proofs.LogLaws.{length-entries}
 use Rattle.running.specs.Start.{pair_ok}
 
 module _ (L : Log) (v : Variable) {kind : ℕ} (n : ℕ) where
@@ -36,3 +37,6 @@ module _ (L : Log) (v : Variable) {kind : ℕ} (n : ℕ) where
   pub no_pair : (kind ≡ 0 → ⊥) → (kind ≡ 1 → ⊥) → (kind ≡ 2 → ⊥) → (kind ≡ 3 → ⊥) → false ≡ pair_ok L v kind n
   unfolding pair_ok
   no_pair a b c d = rw (ne_eqb kind 0 a, ne_eqb kind 1 b, ne_eqb kind 2 c, ne_eqb kind 3 d, and-false (eqb v.role 0))
+
+-- all of these, and that the log of a buffer's first entries is as long as they are many
+pub ruleset pair_laws = (absent_pair, let_pair, word_pair, unknown_pair, memory_pair, no_pair, length-entries)

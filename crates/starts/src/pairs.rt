@@ -12,6 +12,7 @@ use table::{Header, Variable};
 
 // Whether a start may have the pair kind, n for a variable: "0,0 absent; 1,word that fits, for an immediate; 2,0 unknown; 3,head, for a
 // memory", and for a let variable the first alone.
+#[tactic(auto, using(crate::proofs::PairLaws::pair_laws))]
 fn pair_ok(v: Variable, log: &[u64], count: u64, kind: u64, n: u64) -> bool
     requires { entry_size * count ≤ length log.now }
     ensures { result ≡ pair_ok (entries log.now count) v kind n }

@@ -3,7 +3,6 @@
 use mathlib.Core.List.{List}
 use Prim.Native.Nat.{ℕ, suc, ◌≤◌, ◌-◌}
 use Rattle.base.proofs.PassedLaws as Places
-use Rattle.base.proofs.PassedLaws.{one_passed, refuses, accepts}
 use Rattle.running.specs.Start.{entry_rule}
 use Rattle.starts.proofs.entries.entries_ok.Given as goal
 

@@ -3,20 +3,12 @@ use mathlib.Core.Path.{◌≡◌, sym, ap, ◌∙◌}
 use Prim.Native.Nat.{ℕ, suc, ◌-◌, ◌<◌}
 use native.Mathlib.Omega.{arith}
 use lib.Dec.{eqb}
-use borrow.Author.Tests.{le-leb, lt-leb}
-use Rattle.base.proofs.BoolLaws.{and_both, fails_here, goes_on}
+use borrow.Author.Tests.{le-leb}
+use Rattle.base.proofs.BoolLaws.{and_both, goes_on}
 use Rattle.memory.specs.declared.Entry.{Entry}
 use Rattle.memory.specs.Log.{entries, width_at}
 use Rattle.memory.proofs.LogLaws.{width_in_buffer}
 use Rattle.starts.proofs.entries.head_ok.Goals as goal
-
-pub returns-then-n-lt1 : goal.returns-then-n-lt1
-returns-then-n-lt1 c = let n = c.args.n in fails_here _ (sym (fails_here _ (lt-leb 1 n c.if-n-lt1.true)))
-
-pub returns-then-count-n : goal.returns-then-count-n
-returns-then-count-n c =
-    let s = c.args in
-    fails_here _ (sym (goes_on (le-leb 1 s.n c.if-n-lt1.false) (sym (lt-leb s.n s.count c.if-count-n.true))))
 
 pub returns : goal.returns
 returns c =

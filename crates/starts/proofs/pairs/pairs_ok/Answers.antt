@@ -1,11 +1,10 @@
--- `pairs::pairs_ok`: the invariant is that the rule holds at every variable passed, the measure what is left of them. Assumes nothing.
-use mathlib.Core.Path.{◌≡◌, refl, ap, ◌∙◌}
+-- `pairs::pairs_ok`: a pair that breaks the rule refuses, and the end accepts. Assumes nothing.
+use mathlib.Core.Path.{◌≡◌, ap, ◌∙◌}
 use mathlib.Core.Bool.{Bool}
-use Prim.Native.Nat.{ℕ, ◌*◌, ◌+◌}
 use mathlib.Core.List.{List}
+use Prim.Native.Nat.{ℕ, ◌*◌, ◌+◌}
 use lib.ListN.{get_or}
-use Rattle.base.proofs.PassedLaws.{none_passed, one_passed, refuses, accepts}
-use Rattle.table.specs.declared.Header.{Header}
+use Rattle.base.proofs.PassedLaws.{refuses, accepts}
 use Rattle.table.specs.declared.Variable.{Variable}
 use Rattle.memory.specs.Log.{Log, entries}
 use Rattle.running.specs.Start.{pair_ok}
@@ -19,13 +18,10 @@ at-hand log state i found is =
     found ∙ ap (λ (v : Variable). pair_ok log v (get_or state (2 * i) 0) (get_or state (2 * i + 1) 0)) is
 
 pub returns-then-not-pair_ok : goal.returns-then-not-pair_ok
-returns-then-not-pair_ok c = let a = c.args in refuses _ c.loop-i.invariant c.loop-i-test.true (at-hand (entries a.log.now a.count) a.state.now c.loop-i.i c.pair_ok.ensures c.variable-v.ensures) c.if-not-pair_ok.true
-
-pub loop-i-preserved : goal.loop-i-preserved
-loop-i-preserved c = let a = c.args in one_passed _ c.loop-i.invariant c.loop-i-test.true (at-hand (entries a.log.now a.count) a.state.now c.loop-i.i c.pair_ok.ensures c.variable-v.ensures) c.if-not-pair_ok.false
-
-pub loop-i-init : goal.loop-i-init
-loop-i-init c = none_passed _ (ap (λ (h : Header). h.variables) c.requires.framed.is) refl
+returns-then-not-pair_ok c =
+    let log = entries c.args.log.now c.args.count in
+    let found = at-hand log c.args.state.now c.loop-i.i c.pair_ok.ensures c.variable-v.ensures in
+    refuses _ c.loop-i.invariant c.loop-i-test.true found c.if-not-pair_ok.true
 
 pub returns : goal.returns
 returns c = accepts _ c.loop-i.invariant c.loop-i-test.false

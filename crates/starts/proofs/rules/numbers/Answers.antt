@@ -31,13 +31,15 @@ pub returns-then-state-h : goal.returns-then-state-h
 unfolding numbers_ok
 returns-then-state-h c table budget is =
     let a = c.args in
-    numbers_refused (lent table a.state.now a.log.now a.count a.next budget) 0 (omega arith) none (state-test a.state.now is (ne_eqb _ _ c.if-state-h.true))
+    let t = lent table a.state.now a.log.now a.count a.next budget in
+    numbers_refused t 0 (omega arith) none (state-test a.state.now is (ne_eqb _ _ c.if-state-h.true))
 
 pub returns-then-log-ne0 : goal.returns-then-log-ne0
 unfolding numbers_ok
 returns-then-log-ne0 c table budget is =
     let a = c.args in
-    numbers_refused (lent table a.state.now a.log.now a.count a.next budget) 1 (omega arith) (one (state-test a.state.now is (eq-eqb _ _ c.if-state-h.false)) none)
+    let t = lent table a.state.now a.log.now a.count a.next budget in
+    numbers_refused t 1 (omega arith) (one (state-test a.state.now is (eq-eqb _ _ c.if-state-h.false)) none)
     (sym (fails_here _ (ne_eqb _ _ c.if-log-ne0.true)))
 
 pub returns-then-room-gt-MOST_ENTRIES : goal.returns-then-room-gt-MOST_ENTRIES
@@ -77,4 +79,5 @@ returns c table budget is =
     numbers_pass t
     (one (state-test a.state.now is (eq-eqb _ _ c.if-state-h.false))
     (one (log-fits t c.if-log-ne0.false c.if-room-gt-MOST_ENTRIES.false)
-    (one (le-leb t.count (room_of t) c.if-room-count.false) (one (next-test a.next is (passed c.fits.ensures c.if-not-fits.false)) none))))
+    (one (le-leb t.count (room_of t) c.if-room-count.false)
+    (one (next-test a.next is (passed c.fits.ensures c.if-not-fits.false)) none))))

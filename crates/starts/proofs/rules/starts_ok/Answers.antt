@@ -29,8 +29,8 @@ past t = answers_next (numbers_rule t ∷ []) (entry_of t ∷ pairsOf t ∷ [])
 pub entries_ok-requires : goal.entries_ok-requires
 entries_ok-requires c =
     let a = c.args in
-    let fit : Numbers (lent a.table.now a.state.now a.log.now a.count a.next 0) =
-    numbers_accepted (lent a.table.now a.state.now a.log.now a.count a.next 0) (c.numbers.ensures a.table.now 0 c.requires.is) c.in-Accepted.is in
+    let t = lent a.table.now a.state.now a.log.now a.count a.next 0 in
+    let fit : Numbers t = numbers_accepted t (c.numbers.ensures t.table 0 c.requires.is) c.in-Accepted.is in
     let room = fit.room in
     let count = fit.count in
     record { count_in_bounds = omega arith; count_le_most_entries = omega arith }
@@ -38,10 +38,14 @@ entries_ok-requires c =
 pub pairs_ok-requires : goal.pairs_ok-requires
 pairs_ok-requires c =
     let a = c.args in
-    let fit : Numbers (lent a.table.now a.state.now a.log.now a.count a.next 0) =
-    numbers_accepted (lent a.table.now a.state.now a.log.now a.count a.next 0) (c.numbers.ensures a.table.now 0 c.requires.is) c.in-Accepted.is in
+    let t = lent a.table.now a.state.now a.log.now a.count a.next 0 in
+    let fit : Numbers t = numbers_accepted t (c.numbers.ensures t.table 0 c.requires.is) c.in-Accepted.is in
     let count = fit.count in
-    record { framed = c.requires; state_len = fit.state ∙ ap (λ (h : Header). 2 * h.variables) (sym c.requires.is); count_in_bounds = omega arith }
+    record {
+      framed = c.requires;
+      state_len = fit.state ∙ ap (λ (h : Header). 2 * h.variables) (sym c.requires.is);
+      count_in_bounds = omega arith;
+    }
 
 pub returns-in-Refused : goal.returns-in-Refused
 unfolding start_rules
