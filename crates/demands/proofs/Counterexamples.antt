@@ -2,7 +2,7 @@
 use mathlib.Core.Path.{◌≡◌, refl, sym, ap, ◌∙◌}
 use mathlib.Core.Bool.{false, true≢false}
 use mathlib.Core.List.{List, [], ◌∷◌, ◌++◌}
-use Prim.Native.Nat.{ℕ, zero, suc, ◌+◌, ◌*◌, ◌<◌}
+use Prim.Native.Nat.{ℕ, zero, suc, ◌<◌}
 use native.Mathlib.Omega.{arith}
 use lib.Dec.{eqb}
 use lib.ListN.{set}
@@ -13,7 +13,7 @@ use Rattle.base.specs.Refusals.{refusal}
 use Rattle.base.proofs.BoolLaws.{impossible}
 use Rattle.base.proofs.RefusalLaws.{refused_iff}
 use Rattle.table.specs.Decode.{context}
-use Rattle.table.proofs.Assembler.{assembled, immediate, memory, sealed, word, var, move, special}
+use Rattle.table.proofs.Assembler.{assembled, immediate, memory, sealed, var, move, special}
 use Rattle.typing.specs.Verdict.{check_rules, check}
 use Rattle.sealing.specs.Verdict.{seal_rules, seal_check}
 use Rattle.memory.specs.Log.{Cell, entries}

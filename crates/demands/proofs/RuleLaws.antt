@@ -25,7 +25,7 @@ use Rattle.running.proofs.RunKeeps.{EndsBy, by_done, by_stop}
 use Rattle.running.proofs.StartLaws.{start_rules-hold, result_refused, result_ran}
 use Rattle.running.proofs.StartKeeps.{start_ok_iff, start_keeps}
 use Rattle.running.proofs.AcceptedLaws.{records_of, table_ok_iff, checked, table_ok}
-use Rattle.demands.specs.Demands.{rules, RulesHold}
+use Rattle.demands.specs.Demands.{RulesHold}
 
 -- a run that was begun ends otherwise
 ran_not_refused : (s : Start) → Accepts s → {code place : ℕ} → (ran s).ending ≡ Endings.Refused code place → ⊥

@@ -8,7 +8,7 @@ use Rattle.base.specs.declared.Answer.{Answer}
 use Rattle.base.specs.declared.Answer.TheVariants.{Accepted, Refused}
 use Rattle.base.specs.Refusals.{FirstFault, refusal}
 use Rattle.base.proofs.RefusalLaws.{refused_iff}
-use Rattle.table.specs.Decode.{context, program}
+use Rattle.table.specs.Decode.{context}
 use Rattle.table.proofs.ExpressionLaws.{expr_view}
 use Rattle.typing.specs.Verdict.{check_rules, check}
 use Rattle.typing.proofs.TypingLaws.{decides, unique}
