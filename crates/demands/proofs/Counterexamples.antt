@@ -1,5 +1,6 @@
 -- What each demand shuts out by itself: a program for each thing that it names. Assumes nothing.
 use mathlib.Core.Path.{◌≡◌, refl, sym, ap, ◌∙◌}
+use mathlib.Core.Logic.{◌↔◌}
 use mathlib.Core.Bool.{false, true≢false}
 use mathlib.Core.List.{List, [], ◌∷◌, ◌++◌}
 use Prim.Native.Nat.{ℕ, zero, suc, ◌<◌}
@@ -17,12 +18,13 @@ use Rattle.table.proofs.Assembler.{assembled, immediate, memory, sealed, var, mo
 use Rattle.typing.specs.Verdict.{check_rules, check}
 use Rattle.sealing.specs.Verdict.{seal_rules, seal_check}
 use Rattle.memory.specs.Log.{Cell, entries}
+use Rattle.memory.specs.Typed.{Has}
 use Rattle.evaluation.specs.State.{in_state}
 use Rattle.running.specs.declared.Ending.TheVariants as Endings
 use Rattle.running.specs.Start.{Start, log_of}
 use Rattle.running.specs.Result.{Result, result, run_rules, refused, next_start}
 use Rattle.secrecy.specs.Agreement.{Agreeing, SameResult, Content, content}
-use Rattle.demands.specs.Demands.{of_functions, Demand1, Demand2, TypesKept, StartsAgain, Demand3}
+use Rattle.demands.specs.Demands.{of_functions, Demand1, RulesHold, Demand2, TypesKept, StartsAgain, Demand3}
 use Rattle.demands.specs.Refuted.{silent_check, silent_seal, silent_run, misplaced, last_first, accepting, refusing_all, at_refusal}
 use Rattle.demands.specs.Refuted.{with_ending, with_ticks, with_count, with_next, with_state, with_log, leaving, telling, storing}
 use Rattle.demands.proofs.RuleLaws.{check_iff, seal_iff}
@@ -199,7 +201,10 @@ next_written d = let same : ◌≡◌ {A = ℕ} 0 5 = ap (λ (r : Result). r.nex
 -- "exactly when": a verdict that is never yes is sound, one that is always yes complete, and neither is exact
 pub only_sound : Demand2 (of_functions refusing_all seal_check result) → ⊥
 unfolding refusing_all
-only_sound d = let yes-there : refusing_all table ≡ Accepted = (d.verdict table (refusing_all table) refl).1 ((check_iff table).0 good) in impossible (cc)
+only_sound d =
+    let exact : (refusing_all table ≡ Accepted) ↔ RulesHold table = d.verdict table (refusing_all table) refl in
+    let yes-there : refusing_all table ≡ Accepted = exact.1 ((check_iff table).0 good) in
+    impossible (cc)
 
 pub only_complete : Demand2 (of_functions accepting seal_check result) → ⊥
 unfolding accepting check
@@ -218,7 +223,7 @@ seal_only_complete d = let yes-there : seal_check leaky ≡ Accepted = (seal_iff
 -- the sealed byte as 300: types kept for open variables only
 pub open_types_only : TypesKept (of_functions check seal_check (leaving 0 1 300)) → ⊥
 unfolding leaving with_state start table result context
-open_types_only d = let fits = (d (start 3 9) _ refl refl 0 (omega arith)).sound in absurd (omega (fits, arith))
+open_types_only d = let kept : Has _ _ _ = d (start 3 9) _ refl refl 0 (omega arith) in let fits = kept.sound in absurd (omega (fits, arith))
 
 -- the open memory as a word: types kept for words only
 pub word_types_only : TypesKept (of_functions check seal_check (leaving 2 1 0)) → ⊥
