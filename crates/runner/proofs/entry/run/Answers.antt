@@ -3,20 +3,10 @@ use mathlib.Core.Path.{sym, subst, ◌∙◌}
 use native.Mathlib.Omega.{arith}
 use borrow.Author.Rules.{rules}
 use Rattle.table.specs.Records.{Framed}
-use Rattle.running.specs.Start.{Start}
 use Rattle.starts.specs.Lent.{lent}
 use Rattle.verdict.proofs.CheckLaws.{checked}
 use Rattle.runner.proofs.ResultLaws.{table_refused, start_refused, accepts, gives_result}
 use Rattle.runner.proofs.entry.run.Goals as goal
-use Rattle.runner.proofs.entry.run.Lts
-use Rattle.runner.proofs.entry.run.Tie
-use Rattle.runner.proofs.entry.run.Reads
-
-abbrev Start : Type 0
-Start = Lts.Start Tie.the-claims Reads.Pre Reads.Post
-
-abbrev start : Start → Start
-start s = lent s.args.table.now s.args.state.now s.args.log.now s.args.count s.args.next s.args.budget
 
 pub header-requires : goal.header-requires
 header-requires c =
@@ -30,22 +20,18 @@ starts_ok-requires c =
 
 pub run_accepted-requires : goal.run_accepted-requires
 run_accepted-requires c =
-    let s = c.before.before.before.before.before.before.before.before.before.before.before.before.before.before in
-    accepts (start s) c.check.ensures c.in-Accepted.is (c.starts_ok.ensures s.args.budget) c.in-Accepted-starts_ok.is
+    accepts (lent c.args.table.now c.args.state.now c.args.log.now c.args.count c.args.next c.args.budget) c.check.ensures c.in-Accepted.is (c.starts_ok.ensures c.args.budget) c.in-Accepted-starts_ok.is
 
 pub returns-in-Refused : goal.returns-in-Refused
 returns-in-Refused c =
-    let s = c.before.before.before.before.before.before.before in
-    table_refused (start s) c.check.ensures c.in-Refused.is c.refused.ensures
+    table_refused (lent c.args.table.now c.args.state.now c.args.log.now c.args.count c.args.next c.args.budget) c.check.ensures c.in-Refused.is c.refused.ensures
 
 pub returns-in-Refused-starts_ok : goal.returns-in-Refused-starts_ok
 returns-in-Refused-starts_ok c =
-    let s = c.before.before.before.before.before.before.before.before.before.before.before.before.before.before in
-    start_refused (start s) c.check.ensures c.in-Accepted.is (c.starts_ok.ensures s.args.budget)
+    start_refused (lent c.args.table.now c.args.state.now c.args.log.now c.args.count c.args.next c.args.budget) c.check.ensures c.in-Accepted.is (c.starts_ok.ensures c.args.budget)
     c.in-Refused-starts_ok.is c.refused-in-Refused-starts_ok.ensures
 
 pub returns-in-Accepted-starts_ok : goal.returns-in-Accepted-starts_ok
 returns-in-Accepted-starts_ok c =
-    let s = c.before.before.before.before.before.before.before.before.before.before.before.before.before.before.before.before.before.before.before in
-    let a = accepts (start s) c.check.ensures c.in-Accepted.is (c.starts_ok.ensures s.args.budget) c.in-Accepted-starts_ok.is in
-    gives_result (start s) a c.run_accepted.ensures.0
+    let a = accepts (lent c.args.table.now c.args.state.now c.args.log.now c.args.count c.args.next c.args.budget) c.check.ensures c.in-Accepted.is (c.starts_ok.ensures c.args.budget) c.in-Accepted-starts_ok.is in
+    gives_result (lent c.args.table.now c.args.state.now c.args.log.now c.args.count c.args.next c.args.budget) a c.run_accepted.ensures.gives
