@@ -18,11 +18,14 @@ ghost use Rattle.bilrun.specs.Report.{started};
 use base::{Answer, code_of, place_of};
 use report::lines::{answer_line, run_line, variable_lines};
 use runner::entry::run;
-use std::io;
-use std::io::{Read, Write};
 use table::Header;
 use table::bytes::header;
 use verdict::{check, seal_check};
+
+// The numbers of standard input and output.
+const STANDARD_INPUT: i32 = 0;
+
+const STANDARD_OUTPUT: i32 = 1;
 
 // "budget 10,000"
 const BUDGET: u32 = 10000;
@@ -85,26 +88,10 @@ fn report(table: &[u8], out: &mut [u8]) -> usize
     }
 }
 
-// Reads until the buffer is full or the input ends, and tells how many bytes came. A read that fails is taken for the end.
-fn read_full<R: Read + Drop>(mut input: R, into: &mut [u8]) -> usize
-    ensures { result ≤ length into.new }
-{
-    let mut done = 0;
-    // each read that goes on brings a byte at least
-    for _ in 0..into.len() {
-        match input.read(&mut into[done..]) {
-            Ok(0) => break,
-            Ok(n) => done += n,
-            Err(_) => break,
-        }
-    }
-    done
-}
-
-fn main(rt: HostRuntime) -> io::Result<()> {
-    let mut input = [0u8; 65536];
-    let n = read_full(rt.stdin(), &mut input);
+fn main() {
+    let mut input = io::large_buffer();
+    let n = io::read_full(STANDARD_INPUT, &mut input);
     let mut text = [0u8; 16384];
     let end = report(&input[..n], &mut text);
-    rt.stdout().write_all(&text[..end])
+    io::write_all(STANDARD_OUTPUT, &text[..end]);
 }
