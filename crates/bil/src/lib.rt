@@ -1,4 +1,4 @@
-// The library's face: what C programs call. include/bil.h declares the same functions.
+// The library's face: what C programs call. `bil_c` exports these functions to C, and include/bil.h declares them.
 //
 // Every function takes every number and every slice that can be passed to it and asks nothing of its caller.
 #![tactic(auto)]
@@ -57,8 +57,7 @@ fn word_call(sub: u32, width: u32, a: u64, b: u64) -> WordCall
 }
 
 // The kind of what a binary operation gives: 0 for a bad sub, width or word, 1 a word, 2 unknown.
-#[unsafe(no_mangle)]
-pub extern "C" fn bil_word_kind(sub: u32, width: u32, a: u64, b: u64) -> u32
+pub fn bil_word_kind(sub: u32, width: u32, a: u64, b: u64) -> u32
     ensures { result ≡ WordCalls.kind (WordCalls.call sub width a b) }
 {
     match word_call(sub, width, a, b) {
@@ -69,8 +68,7 @@ pub extern "C" fn bil_word_kind(sub: u32, width: u32, a: u64, b: u64) -> u32
 }
 
 // The word that a binary operation gives, 0 unless the kind is 1.
-#[unsafe(no_mangle)]
-pub extern "C" fn bil_word_value(sub: u32, width: u32, a: u64, b: u64) -> u64
+pub fn bil_word_value(sub: u32, width: u32, a: u64, b: u64) -> u64
     ensures { result ≡ WordCalls.value (WordCalls.call sub width a b) }
 {
     match word_call(sub, width, a, b) {
@@ -81,32 +79,28 @@ pub extern "C" fn bil_word_value(sub: u32, width: u32, a: u64, b: u64) -> u64
 }
 
 // The code of the first of refusals 1 to 13 that comes, 0 where the table is accepted.
-#[unsafe(no_mangle)]
-pub extern "C" fn bil_check_code(table: &[u8]) -> u32
+pub fn bil_check_code(table: &[u8]) -> u32
     ensures { result ≡ code_of (Typing.check table.now) }
 {
     code_of(check(table))
 }
 
 // The place of the refusal whose code bil_check_code gives, 0 where the table is accepted.
-#[unsafe(no_mangle)]
-pub extern "C" fn bil_check_place(table: &[u8]) -> u32
+pub fn bil_check_place(table: &[u8]) -> u32
     ensures { result ≡ place_of (Typing.check table.now) }
 {
     place_of(check(table))
 }
 
 // The code of the first of refusals 1 to 15 that comes, 0 where the table is accepted and clean.
-#[unsafe(no_mangle)]
-pub extern "C" fn bil_seal_code(table: &[u8]) -> u32
+pub fn bil_seal_code(table: &[u8]) -> u32
     ensures { result ≡ code_of (Sealing.seal_check table.now) }
 {
     code_of(seal_check(table))
 }
 
 // The place of the refusal whose code bil_seal_code gives, 0 where the table is accepted and clean.
-#[unsafe(no_mangle)]
-pub extern "C" fn bil_seal_place(table: &[u8]) -> u32
+pub fn bil_seal_place(table: &[u8]) -> u32
     ensures { result ≡ place_of (Sealing.seal_check table.now) }
 {
     place_of(seal_check(table))
@@ -114,8 +108,7 @@ pub extern "C" fn bil_seal_place(table: &[u8]) -> u32
 
 // The run of what is lent. In out it gives code, place, ticks, log count and next address, and the answer is 1; where out is not five
 // numbers nothing is written anywhere, and the answer is 0.
-#[unsafe(no_mangle)]
-pub extern "C" fn bil_run(
+pub fn bil_run(
     table: &[u8],
     state: &mut [u64],
     log: &mut [u64],
