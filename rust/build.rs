@@ -26,7 +26,7 @@ fn folder() -> Result<PathBuf, String> {
     match folder.canonicalize() {
         Ok(whole) if whole.join("libbil.a").is_file() => Ok(whole),
         _ => Err(format!(
-            "there is no {}: run 'make' or 'rt staticlib bil' in the repository, \
+            "there is no {}: run 'make' in the repository, \
              or name the folder of libbil.a in BIL_ARCHIVE",
             env::current_dir().unwrap_or_default().join(folder).join("libbil.a").display()
         )),

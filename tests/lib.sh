@@ -14,10 +14,9 @@ fail() {
   exit 1
 }
 
-# The toolchain's part for this machine: its C library, its loader and, where there is one, its emulator. Only what is to be
-# built needs the toolchain.
+# The toolchain's C library and loader for x86-64 and, where it brings one, an emulator. Only what is to be built needs the toolchain.
 kit=${RATTLE_HOME:-$(dirname "$(dirname "$(readlink -f "$(command -v rt || echo /none/none)")")")}
-tools=$kit/on/$machine/toolchain
+tools=$kit/toolchain
 
 # Installs Debian packages by name. The lists of packages are fetched once, and again only where an install fails.
 install_packages() { # PACKAGE..
@@ -90,7 +89,7 @@ compile_x86() { # OUT FILE..
 }
 
 # Sets the array `launch` to the words that run an x86-64 program on this machine, the program last: one of
-# compile_x86, which is static, or one that rt built, which asks for the toolchain's C library.
+# compile_x86, which is static, or one that rt built, which asks for a C library. Under an emulator that is the toolchain's.
 launch_x86() { # PROGRAM
   launch=()
   if [ "$machine" != x86_64 ]; then
@@ -100,9 +99,9 @@ launch_x86() { # PROGRAM
       need qemu-user qemu-x86_64
       launch+=(qemu-x86_64)
     fi
-  fi
-  if [ -x "$tools/lib/ld-linux-x86-64.so.2" ] && head -c 4096 "$1" | grep -qa ld-linux-x86-64; then
-    launch+=("$tools/lib/ld-linux-x86-64.so.2" --library-path "$tools/lib")
+    if [ -x "$tools/lib/ld-linux-x86-64.so.2" ] && head -c 4096 "$1" | grep -qa ld-linux-x86-64; then
+      launch+=("$tools/lib/ld-linux-x86-64.so.2" --library-path "$tools/lib")
+    fi
   fi
   launch+=("$1")
 }
@@ -114,50 +113,73 @@ run_x86() { # PROGRAM ARGS..
   "${launch[@]}" "$@"
 }
 
-# Whether a file that rt made is newer than every file and folder under crates/.
+# Whether a file that rt made is newer than every file and folder of the crates, but for what rt keeps in their out/.
 fresh() { # FILE
-  [ -e "$1" ] && [ -z "$(find "$root/crates.txt" "$root/crates" -newer "$1" -print -quit)" ]
+  [ -e "$1" ] && [ -z "$(find "$root/crates.txt" -newer "$1" -print -quit)" ] &&
+    [ -z "$(find "$root/crates" -mindepth 2 -name out -prune -o -newer "$1" -print -quit)" ]
 }
 
-# How many crates of this repository a crate stands on, itself counted. A crate stands below those that name it.
+# The crates of this repository that a crate stands on, one a line, itself among them.
 crates_below() { # CRATE
-  sed -e 's/#.*//' -e '/:/!d' "$root/crates.txt" | tac | awk -F: -v crate="$1" '
-    BEGIN { wanted[crate] = 1 }
-    { gsub(/[ \t]/, "", $1) }
-    $1 in wanted { count++; n = split($2, names, " "); for (i = 1; i <= n; i++) wanted[names[i]] = 1 }
-    END { print count + 0 }'
+  sed -e 's/#.*//' -e '/:/!d' "$root/crates.txt" | awk -F: -v crate="$1" '
+    { split($1, head, " "); below[head[1]] = $2 }
+    function take(name,   names, n, i) {
+      if (!(name in below) || name in taken) return
+      taken[name] = 1
+      print name
+      n = split(below[name], names, " ")
+      for (i = 1; i <= n; i++) take(names[i])
+    }
+    END { take(crate) }'
 }
 
-# Has rt prove a crate and make a file of it, where that is older than the crates. It says on standard error how far it
-# is, and what rt printed where it fails.
-build_by_rt() { # check|staticlib CRATE FILE
-  local all proved=0 line log=$work/rt-$1-$2.log
-  fresh "$3" && return
-  command -v rt >/dev/null || fail "no command rt: the Rattle toolchain is not on PATH, and ${3#"$root/"} is to be built by it"
-  mkdir -p "$work"
-  all=$(crates_below "$2")
-  printf 'building %s: its %d crates are proved first, which takes some minutes where none is proved yet\n' "${3#"$root/"}" "$all" >&2
-  if ! (cd "$root" && rt "$1" "$2") 2>&1 </dev/null | tee "$log" | while IFS= read -r line; do
-    [[ $line =~ ^rt:\ ([a-z_]+)\ proved\ \((.*)\)$ ]] || continue
-    proved=$((proved + 1))
-    [[ ${BASH_REMATCH[2]} == unchanged* ]] || printf '  %d of %d proved: %s (%s)\n' "$proved" "$all" "${BASH_REMATCH[1]}" "${BASH_REMATCH[2]}" >&2
-  done || [ ! -e "$3" ]; then
-    tail -n 20 "$log" >&2
-    fail "rt $1 $2 made no ${3#"$root/"} (${log#"$root/"} has all that it said)"
+# Reads what rt says and tells on standard error each crate that it has proved, how many of all that are, and the seconds that it took. rt says
+# nothing of a crate that is proved already.
+tell_proved() { # ALL
+  local line crate='' proved='' since=$SECONDS
+  while IFS= read -r line; do
+    case $line in
+      'crate '*': modules '*)
+        crate=${line#crate }
+        crate=${crate%%:*}
+        ;;
+      'logic=proved '*)
+        [ "$crate" ] || continue
+        proved=$(printf '%s\n' "$proved" "$(crates_below "$crate")" | sort -u)
+        printf '  %d of %d proved: %s (%d s)\n' "$(wc -w <<<"$proved")" "$1" "$crate" $((SECONDS - since)) >&2
+        crate=
+        since=$SECONDS
+        ;;
+    esac
+  done
+}
+
+# Has rt prove a crate and make a file of it, in the crate's folder, and puts a copy where it is wanted, if the one there is older than the
+# crates. It says on standard error how far it is, and what rt printed where it fails.
+build_by_rt() { # lib|run CRATE MADE FILE
+  local all log=$work/rt-$1-$2.log made=$root/crates/$2/$3
+  fresh "$4" && return
+  command -v rt >/dev/null || fail "no command rt: the Rattle toolchain is not on PATH, and ${4#"$root/"} is to be built by it"
+  mkdir -p "$work" "$(dirname "$4")"
+  all=$(crates_below "$2" | wc -l)
+  printf 'building %s: its %d crates are proved first, which takes some minutes where none is proved yet\n' "${4#"$root/"}" "$all" >&2
+  if ! (cd "$root/crates/$2" && rt "$1") 2>&1 </dev/null | tee "$log" | tell_proved "$all" || ! cp "$made" "$4.new"; then
+    grep -v '^statements \|^logic /\|^only=' "$log" | tail -n 20 >&2 # without the lines that count modules
+    fail "rt $1 in crates/$2 made no ${4#"$root/"} (${log#"$root/"} has all that it said)"
   fi
-  touch "$3" # rt leaves alone what it need not make again
+  mv "$4.new" "$4"
 }
 
-# Sets `archive` to a library's archive, proved and built if it must be.
-build_archive() { # CRATE
+# Sets `archive` to the archive of a library, which the crate LIBRARY_c exports to C, proved and built if it must be.
+build_archive() { # LIBRARY
   archive=$root/target/staticlib/lib$1.a
-  build_by_rt staticlib "$1" "$archive"
+  build_by_rt lib "${1}_c" "out/lib${1}_c.a" "$archive"
 }
 
-# Sets `program` to a program, proved and built if it must be.
+# Sets `program` to a program, proved and built if it must be. rt runs it once, on no input.
 build_program() { # CRATE
   program=$root/target/bin/$1
-  build_by_rt check "$1" "$program"
+  build_by_rt run "$1" "out/$1" "$program"
 }
 
 # Sets `driver` to the program of tests/GROUP/driver.c over the archive of bil.
