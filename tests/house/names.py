@@ -38,7 +38,7 @@ def main():
                         wrong.append(f"docs/{name}.md:{number}: `{quoted}`: no {part}")
     crates = set(os.listdir(os.path.join(ROOT, "crates")))
     for number, line in enumerate(open(os.path.join(ROOT, "docs", "READING.md"), encoding="utf-8"), 1):
-        for crate, file in re.findall(r"\b([a-z]+), ([A-Z]\w+)(?=[:)])", line):
+        for crate, file in re.findall(r"\b([a-z_]+), ([A-Z]\w+)(?=[:)])", line):
             seen += 1
             if crate in crates and not any(os.path.isfile(os.path.join(ROOT, "crates", crate, d, file + ".antt")) for d in ("specs", "proofs")):
                 wrong.append(f"docs/READING.md:{number}: {crate} has no file {file}")
