@@ -67,4 +67,4 @@ uninstall:
 	rm -rf $(DESTDIR)$(libexec) $(DESTDIR)$(prefix)/share/doc/bil
 
 clean:
-	rm -rf target
+	rm -rf target crates/*/out
