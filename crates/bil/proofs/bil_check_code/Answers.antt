@@ -5,4 +5,4 @@ use Rattle.base.specs.Refusals.{code_of}
 use Rattle.bil.proofs.bil_check_code.Goals as goal
 
 pub returns : goal.returns
-returns c = c.code_of_lem.ensures ∙ ap code_of c.check.ensures
+returns c = c.code_of.ensures ∙ ap code_of c.check.ensures

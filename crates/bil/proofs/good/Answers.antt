@@ -14,10 +14,10 @@ returns-then-not-within-2 c =
 pub returns-then-not-fits : goal.returns-then-not-fits
 returns-then-not-fits c =
     goes_on (passed c.within.ensures c.if-not-within.false)
-    (goes_on (passed c.within-2.ensures c.if-not-within-2.false) (fails_here _ (failed c.fits-2.ensures c.if-not-fits.true)))
+    (goes_on (passed c.within-2.ensures c.if-not-within-2.false) (fails_here _ (failed c.fits.ensures c.if-not-fits.true)))
 
 pub returns : goal.returns
 returns c =
     goes_on (passed c.within.ensures c.if-not-within.false)
     (goes_on (passed c.within-2.ensures c.if-not-within-2.false)
-    (goes_on (passed c.fits-2.ensures c.if-not-fits.false) c.fits3.ensures))
+    (goes_on (passed c.fits.ensures c.if-not-fits.false) c.fits-2.ensures))
