@@ -4,7 +4,7 @@ use mathlib.Core.Bool.{Bool}
 use mathlib.Core.List.{List, [], ◌∷◌}
 use Prim.Native.Nat.{ℕ}
 use lib.ListN.{length, get_or}
-use denote.Ref.{Bor}
+use Rattle.std.specs.Borrow.{Bor, MutBor}
 use borrow.Author.Tests.{eq-eqb, ne_eqb}
 use Rattle.base.specs.declared.Answer.{Answer}
 use Rattle.base.specs.Choice.{if◌then◌else◌}
@@ -77,6 +77,10 @@ accepted_gives = record { check = checks; seal = seal_checks; run = runs_accepte
 abbrev ref : List ℕ → Bor (List ℕ)
 ref l = record { ref_ptr = (0, 0); now = l }
 
+-- some reference to a list that may be written
+abbrev mut : List ℕ → MutBor (List ℕ)
+mut l = record { ref_ptr = (0, 0); ghost_name = 0; now = l }
+
 abbrev outcome_of : Result → Outcome
 outcome_of x = record { ending = x.ending; ticks = x.ticks; count = x.count; next = x.next }
 
@@ -84,7 +88,7 @@ gives : (x : Result) → Gives x (outcome_of x) x.state x.log
 gives x = record { ending = refl; ticks = refl; count = refl; next = refl; state = refl; log = refl }
 
 abbrev lend : Start → List ℕ → List ℕ → Parameters
-lend s state log = (ref s.table, (ref state, (ref log, (s.count, (s.next, (s.budget, tt))))))
+lend s state log = (ref s.table, (mut state, (mut log, (s.count, (s.next, (s.budget, tt))))))
 
 -- what the rules give keeps the contracts, of whatever is taken
 code_takes : Demands.Takes code
@@ -153,10 +157,10 @@ told_is : (s : Start) → told (left 1 (result s).state (result s).log (numbers 
 told_is s = rw ((Demands.decided).endings s) refl
 
 answered_check : {s : List ℕ} {r : Answer} → Answered CheckCode CheckPlace s r → r ≡ check s
-answered_check {s} (answered code place c p) = ap₂ answer_of (check_code c) (check_place p) ∙ (Demands.decided).answers s
+answered_check {s} (answered _ _ c p) = ap₂ answer_of (check_code c) (check_place p) ∙ (Demands.decided).answers s
 
 answered_seal : {s : List ℕ} {r : Answer} → Answered SealCode SealPlace s r → r ≡ seal_check s
-answered_seal {s} (answered code place c p) = ap₂ answer_of (seal_code c) (seal_place p) ∙ (Demands.decided).seal_answers s
+answered_seal {s} (answered _ _ c p) = ap₂ answer_of (seal_code c) (seal_place p) ∙ (Demands.decided).seal_answers s
 
 returned_run : {s : Start} {r : Result} → Returned s r → r ≡ result s
 returned_run {s} (returned out l h c) = ap told (with_room s out c h) ∙ told_is s
@@ -167,8 +171,8 @@ c_gives = record { check = answered_check; seal = answered_seal; run = returned_
 run_call : (s : Start) (o : List ℕ) → RunCall (s, o) (Outside.call s o)
 run_call s o =
     let l = Outside.call s o in
-    free nothing_asked.bil_run ([], ([], ([], ([], tt)))) (ref s.table, (ref s.state, (ref s.log, (s.count, (s.next, (s.budget, (ref o, tt)))))))
-    l.answer (ref s.table, (ref l.state, (ref l.log, (s.count, (s.next, (s.budget, (ref l.out, tt))))))) refl
+    free nothing_asked.bil_run ([], ([], ([], ([], tt)))) (ref s.table, (mut s.state, (mut s.log, (s.count, (s.next, (s.budget, (mut o, tt)))))))
+    l.answer (ref s.table, (mut l.state, (mut l.log, (s.count, (s.next, (s.budget, (mut l.out, tt))))))) refl
 
 c_takes : Demands.Takes in_c
 c_takes =

@@ -2,7 +2,7 @@
 -- may be given to what was lent. The toolchain proves that every call of a function ends and keeps its contract; proofs/Proofs.antt that the
 -- three demands hold of each library here. A contract speaks of lists of any numbers, so whatever can be lent is among them. Assumes nothing.
 use Rattle.std.specs.Prelude.{◌≡◌, List, ℕ, length, get_or}
-use Rattle.std.specs.Borrow.{Bor}
+use Rattle.std.specs.Borrow.{Bor, MutBor}
 use Rattle.base.specs.declared.Answer.{Answer}
 use Rattle.base.specs.Refusals.{code_of, place_of}
 use Rattle.running.specs.Start.{Start}
@@ -25,7 +25,7 @@ pub data Call {L A R S X Y : Type 0} (Pre : L → A → Type 0) (Post : L → A 
 
 -- a run's parameters: table, state, log, log count, next address, budget
 abbrev pub Parameters : Type 0
-Parameters = Bor (List ℕ) × (Bor (List ℕ) × (Bor (List ℕ) × (ℕ × (ℕ × (ℕ × Unit {0})))))
+Parameters = Bor (List ℕ) × (MutBor (List ℕ) × (MutBor (List ℕ) × (ℕ × (ℕ × (ℕ × Unit {0})))))
 
 abbrev pub start_of : Parameters → Start
 start_of a = lent a.0.now a.1.0.now a.1.1.0.now a.1.1.1.0 a.1.1.1.1.0 a.1.1.1.1.1.0
