@@ -1,6 +1,6 @@
 -- The run as a call from outside, with whatever is lent: "run gives code, place, ticks, log count, next address". Assumes nothing.
 use Rattle.std.specs.Prelude.{List, [], ◌∷◌, ℕ, eqb, length}
-use Rattle.base.specs.Choice.{if◌then◌else◌}
+use Rattle.std.specs.Prelude.{if◌then◌else◌}
 use Rattle.running.specs.Start.{Start}
 use Rattle.running.specs.Result.{Result, code_of, place_of, result}
 

@@ -1,7 +1,8 @@
 -- The word operations as calls from outside, with any numbers: "A word operation takes sub, width and two words; one call gives
 -- a kind (0 bad sub, width or word; 1 word; 2 unknown), another the word, 0 unless the kind is 1." Assumes nothing.
 use Rattle.std.specs.Prelude.{Bool, ◌&&◌, ℕ, ◌^◌, ltb}
-use Rattle.base.specs.Choice.{if◌then◌else◌, within}
+use Rattle.std.specs.Prelude.{if◌then◌else◌}
+use Rattle.base.specs.Choice.{within}
 use Rattle.word.specs.declared.Computed.{Computed}
 use Rattle.word.specs.declared.Computed.TheVariants as C
 use Rattle.word.specs.Subs.{binary}

@@ -1,6 +1,6 @@
 -- Which statement a statement stands in the bodies of. Assumes nothing.
 use Rattle.std.specs.Prelude.{◌≡◌, List, ℕ, zero, suc, ◌<◌, ltb, get_or}
-use Rattle.base.specs.Choice.{if◌then◌else◌}
+use Rattle.std.specs.Prelude.{if◌then◌else◌}
 use Rattle.table.specs.Records.{second_end}
 
 -- one more than the highest of the statements below j in one of whose bodies statement i stands, 0 where there is none

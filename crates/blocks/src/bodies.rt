@@ -3,7 +3,7 @@
 // A statement's owner is the nearest statement above it in one of whose bodies it stands. Owners are kept as one more than a
 // statement's number, and 0 for none.
 ghost use Rattle.std.specs.Prelude.{◌≡◌, ◌||◌, ◌≤◌, ◌<◌, eqb, length};
-ghost use Rattle.base.specs.Choice.{if◌then◌else◌};
+ghost use Rattle.std.specs.Prelude.{if◌then◌else◌};
 ghost use Rattle.table.specs.Records as Records;
 ghost use Rattle.table.specs.Records.{Framed};
 ghost use Rattle.blocks.specs.Owners as Owners;

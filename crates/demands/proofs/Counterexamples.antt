@@ -9,7 +9,7 @@ use lib.Dec.{eqb}
 use lib.ListN.{set}
 use Rattle.base.specs.declared.Answer.{Answer}
 use Rattle.base.specs.declared.Answer.TheVariants.{Accepted, Refused}
-use Rattle.base.specs.Choice.{if◌then◌else◌}
+use Rattle.std.specs.Prelude.{if◌then◌else◌}
 use Rattle.base.specs.Refusals.{refusal}
 use Rattle.base.proofs.BoolLaws.{impossible}
 use Rattle.base.proofs.RefusalLaws.{refused_iff}

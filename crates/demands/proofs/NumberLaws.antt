@@ -9,7 +9,8 @@ use lib.Dec.{leb}
 use borrow.Author.Tests.{leb-true, ne_eqb, le-leb, lt-leb}
 use Rattle.base.specs.declared.Answer.{Answer}
 use Rattle.base.specs.declared.Answer.TheVariants.{Accepted, Refused}
-use Rattle.base.specs.Choice.{if◌then◌else◌, within}
+use Rattle.std.specs.Prelude.{if◌then◌else◌}
+use Rattle.base.specs.Choice.{within}
 use Rattle.base.specs.Refusals.{Rule, FirstFault, here, further, refusal, code_of, place_of}
 use Rattle.base.proofs.BoolLaws.{and_left, and_right}
 use Rattle.base.proofs.RefusalLaws.{refused_iff}

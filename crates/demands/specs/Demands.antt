@@ -4,7 +4,7 @@
 use Rattle.std.specs.Prelude.{◌≡◌, Bool, false, List, ◌++◌, ◌↔◌, ℕ, ◌<◌, eqb, leb}
 use Rattle.base.specs.declared.Answer.{Answer}
 use Rattle.base.specs.declared.Answer.TheVariants.{Accepted, Refused}
-use Rattle.base.specs.Choice.{if◌then◌else◌}
+use Rattle.std.specs.Prelude.{if◌then◌else◌}
 use Rattle.base.specs.Refusals.{HoldsBelow, AllHold, FirstFault, code_of, place_of}
 use Rattle.value.specs.declared.ValueType.{ValueType}
 use Rattle.table.specs.Bytes.{header}

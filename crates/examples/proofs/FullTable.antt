@@ -11,7 +11,7 @@ use lib.Dec.{leb, ltb, eqb, lit<}
 use lib.ListN.{length, get_or, drop, replicate, length-replicate}
 use lib.Seq.{drop-drop}
 use borrow.Author.Tests.{lt-ltb, le-leb, le-ltb, eq-eqb, ne_eqb}
-use Rattle.base.specs.Choice.{if◌then◌else◌}
+use Rattle.std.specs.Prelude.{if◌then◌else◌}
 use Rattle.base.specs.Numbered.{numbered}
 use Rattle.base.specs.Refusals.{HoldsBelow, AllHold, no_rule, one_more}
 use Rattle.base.specs.declared.Answer.TheVariants.{Accepted}

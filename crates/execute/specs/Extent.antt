@@ -1,6 +1,6 @@
 -- How far a statement goes. Assumes nothing.
 use Rattle.std.specs.Prelude.{◌||◌, ℕ, ◌+◌, eqb}
-use Rattle.base.specs.Choice.{if◌then◌else◌}
+use Rattle.std.specs.Prelude.{if◌then◌else◌}
 use Rattle.table.specs.declared.Node.{Node}
 
 -- how many statements stand in the bodies of a statement: "5 while (a guard, b body length ≥ 1); 6 if (a guard, b then length ≥ 1, c else

@@ -1,7 +1,7 @@
 -- How the records stand together: refusals 8 to 11. Assumes nothing.
 use Rattle.std.specs.Prelude.{Bool, true, false, not, ◌&&◌, ◌||◌, ℕ, zero, suc, ◌+◌, max, leb, eqb, length, get_or}
 use mathlib.Core.List.{List, [], ◌∷◌, ◌++◌, map, flat_map}
-use Rattle.base.specs.Choice.{if◌then◌else◌}
+use Rattle.std.specs.Prelude.{if◌then◌else◌}
 use Rattle.base.specs.Course.{up_to}
 use Rattle.base.specs.Refusals.{Rule}
 use Rattle.table.specs.Bytes.{header, variable, expression, statement}

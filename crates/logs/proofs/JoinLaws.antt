@@ -3,7 +3,7 @@ use Rattle.std.proofs.Common.{◌≡◌, ℕ, suc, ◌+◌, ◌-◌, ◌*◌, �
 use native.Mathlib.Nat.{mul-le-mul_right}
 use mathlib.Core.List.{reverse-cons, reverse-append}
 use mathlib.Core.Option.{Option, none, some}
-use Rattle.base.specs.Choice.{if◌then◌else◌}
+use Rattle.std.specs.Prelude.{if◌then◌else◌}
 use Rattle.base.proofs.BoolLaws.{impossible}
 use Rattle.value.specs.declared.Value.TheVariants.{Word, Memory}
 use Rattle.memory.specs.Log.{Log, Cell, chain, unknown_byte}

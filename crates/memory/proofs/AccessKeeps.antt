@@ -9,7 +9,7 @@ use lib.Dec.{ltb}
 use lib.ListN.{length, replicate, length-replicate}
 use lib.Pow.{pow-add}
 use borrow.Author.Tests.{ltb-true}
-use Rattle.base.specs.Choice.{if◌then◌else◌}
+use Rattle.std.specs.Prelude.{if◌then◌else◌}
 use Rattle.base.proofs.BoolLaws.{impossible}
 use Rattle.word.specs.Words.{Width}
 use Rattle.word.proofs.FitLaws.{mod_fits}

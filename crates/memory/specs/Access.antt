@@ -2,7 +2,7 @@
 -- completes them. Assumes nothing.
 use Rattle.std.specs.Prelude.{Bool, true, false, List, [], ◌∷◌, reverse, ℕ, zero, suc, ◌+◌, ◌*◌, ◌/◌, ◌%◌, ◌^◌, ltb, eqb, length, replicate}
 use Rattle.std.proofs.Math.Option.{Option, none, some}
-use Rattle.base.specs.Choice.{if◌then◌else◌}
+use Rattle.std.specs.Prelude.{if◌then◌else◌}
 use Rattle.value.specs.declared.ValueType.TheVariants.{Imm}
 use Rattle.value.specs.declared.Value.{Value}
 use Rattle.value.specs.declared.Value.TheVariants.{Word, Unknown, Memory}

@@ -7,7 +7,7 @@ use lib.ListN.{length, get_or}
 use Rattle.std.specs.Borrow.{Bor, MutBor}
 use borrow.Author.Tests.{eq-eqb, ne_eqb}
 use Rattle.base.specs.declared.Answer.{Answer}
-use Rattle.base.specs.Choice.{if◌then◌else◌}
+use Rattle.std.specs.Prelude.{if◌then◌else◌}
 use Rattle.base.specs.Refusals.{code_of, place_of}
 use Rattle.typing.specs.Verdict.{check}
 use Rattle.sealing.specs.Verdict.{seal_check}

@@ -1,7 +1,7 @@
 // Refusal 6: what an expression must be. Each op has a function that tests its row, the fields sub, p, q, a, b and c in that order, and
 // then what the row asks beyond them. Such a function is told the number i of the expression, and operands are below it.
 ghost use Rattle.std.specs.Prelude.{◌≡◌, ◌&&◌, List, [], ◌∷◌, ℕ, ◌+◌, ◌*◌, ◌^◌, ◌<◌, leb, eqb};
-ghost use Rattle.base.specs.Choice.{if◌then◌else◌};
+ghost use Rattle.std.specs.Prelude.{if◌then◌else◌};
 ghost use Rattle.base.specs.Refusals.{refusal};
 ghost use Rattle.table.specs.Bytes as Bytes;
 ghost use Rattle.table.specs.Fields.{expression_row};

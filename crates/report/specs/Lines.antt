@@ -1,7 +1,7 @@
 -- The lines that bilrun prints, as bytes of ASCII: "`verdict CODE PLACE`; if 0, `seal CODE PLACE`, `run CODE PLACE TICKS LOG NEXT` and for
 -- each state variable `var N` with `absent`, `word VALUE`, `unknown` or `memory HEAD`, in decimal". Assumes nothing.
 use Rattle.std.specs.Prelude.{List, [], ◌∷◌, ◌++◌, ℕ, zero, suc, ◌+◌, ◌*◌, ◌/◌, ◌%◌, eqb, ltb, get_or}
-use Rattle.base.specs.Choice.{if◌then◌else◌}
+use Rattle.std.specs.Prelude.{if◌then◌else◌}
 use Rattle.base.specs.Numbered.{numbered}
 use Rattle.table.specs.Bytes.{variable}
 

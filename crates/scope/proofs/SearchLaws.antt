@@ -8,7 +8,7 @@ use native.Mathlib.Omega.{arith}
 use borrow.Author.Tests.{eqb-true, eqb-false}
 use lib.Dec.{eqb}
 use lib.ListN.{length, get_or, replicate, length-replicate, get_or-replicate}
-use Rattle.base.specs.Choice.{if◌then◌else◌}
+use Rattle.std.specs.Prelude.{if◌then◌else◌}
 use Rattle.base.specs.Refusals.{refusal}
 use Rattle.base.specs.declared.Answer.TheVariants.{Accepted, Refused}
 use Rattle.base.proofs.RefusalLaws.{one_rule_accepted, one_rule_refused}

@@ -9,7 +9,7 @@
 
 ghost use Rattle.std.specs.Prelude.{◌≡◌, [], ◌∷◌, ◌≤◌, ◌<◌, length, replicate};
 ghost use Rattle.base.specs.declared.Answer.TheVariants.{Accepted};
-ghost use Rattle.base.specs.Choice.{if◌then◌else◌};
+ghost use Rattle.std.specs.Prelude.{if◌then◌else◌};
 ghost use Rattle.base.specs.Refusals.{refusal};
 ghost use Rattle.table.specs.Bytes as Bytes;
 ghost use Rattle.table.specs.Fields as Fields;

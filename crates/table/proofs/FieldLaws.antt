@@ -6,7 +6,8 @@ use Prim.Native.Nat.{ℕ, ◌%◌, ◌≤◌, ◌<◌}
 use native.Mathlib.Omega.{arith}
 use lib.Dec.{leb, ltb, eqb}
 use borrow.Author.Tests.{ltb-true, leb-true, eqb-true, eqb-false, ne_eqb}
-use Rattle.base.specs.Choice.{if◌then◌else◌, within}
+use Rattle.std.specs.Prelude.{if◌then◌else◌}
+use Rattle.base.specs.Choice.{within}
 use Rattle.base.proofs.BoolLaws.{not_both, and_left, and_right, or_cases}
 use Rattle.word.specs.Words.{Width}
 use Rattle.value.specs.declared.ValueType.TheVariants.{Imm, Mem}

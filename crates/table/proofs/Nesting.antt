@@ -9,7 +9,7 @@ use native.Mathlib.Nat.{le_trans, le_refl}
 use native.Mathlib.Omega.{arith}
 use lib.Dec.{ltb, eqb}
 use borrow.Author.Tests.{ltb-true, ltb-false, leb-true, lt-ltb, le-ltb}
-use Rattle.base.specs.Choice.{if◌then◌else◌}
+use Rattle.std.specs.Prelude.{if◌then◌else◌}
 use Rattle.base.proofs.BoolLaws.{and_right}
 use Rattle.table.specs.Asked.{IsBlock}
 use Rattle.table.specs.Bytes.{header, statement}

@@ -1,6 +1,6 @@
 -- What a table's records say: its variables, expressions and program. Assumes nothing.
 use Rattle.std.specs.Prelude.{Bool, List, [], ◌∷◌, ℕ, zero, suc, ◌+◌, ◌-◌, eqb, get_or}
-use Rattle.base.specs.Choice.{if◌then◌else◌}
+use Rattle.std.specs.Prelude.{if◌then◌else◌}
 use Rattle.base.specs.Course.{up_to}
 use Rattle.base.specs.Numbered.{numbered}
 use Rattle.value.specs.declared.ValueType.{ValueType}

@@ -1,6 +1,6 @@
 -- What each field of a record holds, by its op: paper 01's two tables of ops, a row each. Assumes nothing.
 use Rattle.std.specs.Prelude.{Bool, true, false, ◌&&◌, List, [], ◌∷◌, ◌++◌, ℕ, ◌+◌, ◌*◌, ◌^◌, leb, ltb, eqb}
-use Rattle.base.specs.Choice.{if◌then◌else◌}
+use Rattle.std.specs.Prelude.{if◌then◌else◌}
 use Rattle.base.specs.Numbered.{numbered}
 use Rattle.table.specs.declared.Node.{Node}
 

@@ -1,6 +1,7 @@
 -- What the header and each record must be: refusals 1 to 7. Assumes nothing.
 use Rattle.std.specs.Prelude.{◌≡◌, Bool, true, ◌&&◌, ◌||◌, List, [], ◌∷◌, ℕ, zero, suc, ◌+◌, ◌%◌, ◌≤◌, ◌<◌, leb, ltb, eqb, length}
-use Rattle.base.specs.Choice.{if◌then◌else◌, within}
+use Rattle.std.specs.Prelude.{if◌then◌else◌}
+use Rattle.base.specs.Choice.{within}
 use Rattle.base.specs.Refusals.{Rule, whole}
 use Rattle.table.specs.declared.Variable.{Variable}
 use Rattle.table.specs.declared.Node.{Node}

@@ -1,7 +1,7 @@
 -- The type of an expression, if it has one. That `infer` finds exactly what the rules of Typing.antt give is proved (`decides`, TypingLaws; stated
 -- as `Decided` with the demands), so it needs no belief. Assumes nothing.
 use Rattle.std.specs.Prelude.{Bool, true, false, ◌&&◌, ℕ, ◌+◌, ◌-◌, leb, eqb}
-use Rattle.base.specs.Choice.{if◌then◌else◌}
+use Rattle.std.specs.Prelude.{if◌then◌else◌}
 use Rattle.value.specs.declared.ValueType.{ValueType}
 use Rattle.value.specs.declared.ValueType.TheVariants.{Imm, Mem}
 use Rattle.word.specs.Subs.{binary_width}

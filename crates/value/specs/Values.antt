@@ -3,7 +3,7 @@
 -- unknown and high, extract and concat): they are named as their neighbours are (docs/READING.md, 'From 002 to the definitions'). Laws stand in
 -- proofs/. Assumes nothing.
 use Rattle.std.specs.Prelude.{◌≡◌, ℕ, ◌+◌, ◌-◌, eqb}
-use Rattle.base.specs.Choice.{if◌then◌else◌}
+use Rattle.std.specs.Prelude.{if◌then◌else◌}
 use Rattle.word.specs.declared.Computed as C
 use Rattle.word.specs.declared.Computed.TheVariants as CV
 use Rattle.word.specs.Words as Words

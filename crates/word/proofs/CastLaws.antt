@@ -2,7 +2,7 @@
 use Rattle.std.proofs.Common.{◌≡◌, ℕ, suc, ◌+◌, ◌-◌, ◌*◌, ◌%◌, ◌^◌, ◌<◌, ◌≤◌, Bool, ℤ, ap, ◌∙◌, lt_of_lt_of_le, arith, pow_pos, pow_mono, shl_exact}
 use native.Mathlib.Nat.{div-eq_of_lt, zero-mod}
 use lib.Bits.{bit_or, or_shifted}
-use Rattle.base.specs.Choice.{if◌then◌else◌}
+use Rattle.std.specs.Prelude.{if◌then◌else◌}
 use Rattle.word.specs.Words as Words
 use Rattle.word.specs.Words.{word_of}
 use Rattle.word.proofs.SignedLaws.{Reading, plain, below, word_pos, word_negsuc}

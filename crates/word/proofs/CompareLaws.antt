@@ -3,7 +3,7 @@ use Rattle.std.proofs.Common.{◌≡◌, ℕ, suc, ◌+◌, ◌-◌, ◌%◌, �
 use native.Mathlib.Nat.{add-mod_right}
 use lib.Signed.{lt_z, le_z}
 use borrow.Author.Tests.{lt-leb}
-use Rattle.base.specs.Choice.{if◌then◌else◌}
+use Rattle.std.specs.Prelude.{if◌then◌else◌}
 use Rattle.word.specs.Words as Words
 use Rattle.word.specs.Words.{signed, negative}
 use Rattle.word.proofs.TestLaws.{leb_same, ltb_is_not_leb}

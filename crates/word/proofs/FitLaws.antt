@@ -4,7 +4,7 @@ use native.Mathlib.Nat.{mod-le}
 use lib.Arith.{digits_lt}
 use Rattle.word.specs.declared.Computed.{Computed}
 use Rattle.word.specs.declared.Computed.TheVariants.{Word, Unknown}
-use Rattle.base.specs.Choice.{if◌then◌else◌}
+use Rattle.std.specs.Prelude.{if◌then◌else◌}
 use Rattle.word.specs.Words as Words
 use Rattle.word.specs.Words.{Gives, Computes, FitsIn, bit, bitwise, word_of, unless_zero}
 

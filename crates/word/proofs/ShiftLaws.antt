@@ -2,7 +2,7 @@
 use Rattle.std.proofs.Common.{◌≡◌, ℕ, suc, ◌-◌, ◌*◌, ◌/◌, ◌%◌, ◌^◌, ◌<◌, ◌≤◌, min, Bool, true, false, ℤ, refl, ap, ◌∙◌, lt_of_le_of_lt, le_of_lt, div-le_self, arith, pow_pos}
 use native.Mathlib.Nat.{mul-mod_left, div-eq_of_lt, sub-zero, min-eq_left, min-eq_right}
 use lib.Signed.{shr_z}
-use Rattle.base.specs.Choice.{if◌then◌else◌}
+use Rattle.std.specs.Prelude.{if◌then◌else◌}
 use Rattle.word.specs.Words as Words
 use Rattle.word.specs.Words.{negative, word_of}
 use Rattle.word.proofs.SignedLaws.{Reading, plain, below, reading, word_pos, word_negsuc}

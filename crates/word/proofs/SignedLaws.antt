@@ -2,7 +2,7 @@
 use Rattle.std.proofs.Common.{◌≡◌, ℕ, zero, suc, ◌-◌, ◌%◌, ◌^◌, ◌<◌, ◌≤◌, Bool, true, false, ℤ, pos, negsuc, nat_abs, sym, refl, ap, ◌∙◌, mod-eq_of_lt, pos_of_ne-zero, arith, pow_pos, le-ltb, lt-ltb, leb-false, leb-true}
 use native.Mathlib.Nat.{mod_self, sub-zero}
 use lib.IntN.{sub_ℕ}
-use Rattle.base.specs.Choice.{if◌then◌else◌}
+use Rattle.std.specs.Prelude.{if◌then◌else◌}
 use Rattle.word.specs.Words as Words
 use Rattle.word.specs.Words.{signed, negative, word_of, with_sign}
 

@@ -1,6 +1,6 @@
 -- Paper 01's numbers of the operations on words: the subs of op 5 (binary), op 6 (unary) and op 7 (cast). Assumes nothing.
-use Rattle.std.specs.Prelude.{ℕ, ◌≤◌, List, [], ◌∷◌, nat_le}
-use Rattle.base.specs.Choice.{if◌then◌else◌}
+use Rattle.std.specs.Prelude.{cond, ℕ, ◌≤◌, List, [], ◌∷◌, nat_le}
+use Rattle.std.specs.Prelude.{if◌then◌else◌}
 use Rattle.base.specs.Numbered.{numbered}
 use Rattle.word.specs.declared.Computed.{Computed}
 use Rattle.word.specs.declared.Computed.TheVariants.{Word, Unknown}
@@ -65,4 +65,4 @@ cast = numbered (λ w p a. Unknown) casts
 
 -- "Low and high don't widen, signed and unsigned don't narrow."
 abbrev pub CastFits : ℕ → ℕ → ℕ → Type 0
-CastFits sub w p = if nat_le sub 2 then p ≤ w else w ≤ p
+CastFits sub w p = cond (nat_le sub 2) (p ≤ w) (w ≤ p)

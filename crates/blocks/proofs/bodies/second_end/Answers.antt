@@ -2,7 +2,7 @@
 use mathlib.Core.Path.{ap, ap₂, ◌∙◌}
 use Prim.Native.Nat.{◌+◌}
 use lib.Dec.{eqb}
-use Rattle.base.specs.Choice.{if◌then◌else◌}
+use Rattle.std.specs.Prelude.{if◌then◌else◌}
 use Rattle.table.specs.declared.Node.{Node}
 use Rattle.table.specs.Records.{second_end}
 use Rattle.blocks.proofs.bodies.second_end.Goals as goal

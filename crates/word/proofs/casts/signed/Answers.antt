@@ -1,6 +1,6 @@
 -- A word that is not below zero is its reading; of one below zero the complement stays. Assumes nothing.
 use Rattle.std.proofs.Common.{◌≡◌, ℕ, ◌-◌, ◌^◌, ◌<◌, ◌≤◌, Bool, true, false, sym, refl, ◌∙◌, ap₂, arith, pow_mono}
-use Rattle.base.specs.Choice.{if◌then◌else◌}
+use Rattle.std.specs.Prelude.{if◌then◌else◌}
 use Rattle.word.specs.Words as Words
 use Rattle.word.specs.Words.{Gives, negative, signed}
 use Rattle.word.proofs.CastLaws.{word_widened}

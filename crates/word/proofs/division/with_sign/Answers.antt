@@ -1,6 +1,6 @@
 -- The word of a number, or neg of it. Assumes nothing.
 use Rattle.std.proofs.Common.{◌≡◌, ℕ, Bool, true, false, sym, refl, ap, ◌∙◌}
-use Rattle.base.specs.Choice.{if◌then◌else◌}
+use Rattle.std.specs.Prelude.{if◌then◌else◌}
 use Rattle.word.specs.Words as Words
 use Rattle.word.specs.Words.{Gives, with_sign, word_of}
 use Rattle.word.proofs.FitLaws.{gives, gives_too}

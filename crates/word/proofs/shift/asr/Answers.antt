@@ -1,7 +1,7 @@
 -- The signed reading divided by a power of two: of a word below zero the complement is shifted. Assumes nothing.
 use Rattle.std.proofs.Common.{◌≡◌, ℕ, ◌-◌, ◌^◌, min, Bool, true, false, sym, ap, ◌∙◌}
 use lib.Signed.{shr_z}
-use Rattle.base.specs.Choice.{if◌then◌else◌}
+use Rattle.std.specs.Prelude.{if◌then◌else◌}
 use Rattle.word.specs.Words as Words
 use Rattle.word.specs.Words.{Gives, negative, signed}
 use Rattle.word.proofs.FitLaws.{gives, word_fits}
