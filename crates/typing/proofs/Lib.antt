@@ -1,3 +1,4 @@
 pub mod BlockLaws
+pub mod CastLaws
 pub mod TypingLaws
 pub mod Unique

@@ -42,6 +42,7 @@ fn when(b: bool, t: ValueType) -> Typed
 }
 
 // May a cast go from w bits to p?
+#[tactic(auto, using(crate::proofs::CastLaws::narrows, crate::proofs::CastLaws::widens))]
 fn may_cast(sub: u32, w: u32, p: u32) -> bool
     ensures { result ≡ Infer.may_cast sub w p }
 {
