@@ -9,6 +9,7 @@ use borrow.Author.Tests.{eq-eqb, ne_eqb}
 use Rattle.std.specs.Prelude.{if◌then◌else◌}
 use Rattle.running.specs.declared.Ending.{Ending}
 use Rattle.running.specs.Start.{Start}
+use Rattle.starts.specs.Lent.{lent}
 use Rattle.running.specs.Result.{code_of, place_of, result}
 use Rattle.runner.specs.declared.Outcome.{Outcome}
 use Rattle.runner.specs.Given.{Gives}
@@ -46,3 +47,8 @@ module _ (s : Start) (o : List ℕ) where
       ∙ same g.state g.log (c ∙ ap (λ (e : Ending). code_of e) g.ending) (p ∙ ap (λ (e : Ending). place_of e) g.ending) g.ticks
       g.count g.next
       ∙ ap by (sym (eq-eqb _ _ h))
+
+-- the same of what is lent, where out is not five numbers
+pub lent_refused : (table state log : List ℕ) (count next budget : ℕ) (o : List ℕ) → (length o ≡ 5 → ⊥)
+    → left 0 state log o ≡ call (lent table state log count next budget) o
+lent_refused table state log count next budget o h = call_refuses (lent table state log count next budget) o h

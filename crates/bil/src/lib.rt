@@ -108,6 +108,7 @@ pub fn bil_seal_place(table: &[u8]) -> u32
 
 // The run of what is lent. In out it gives code, place, ticks, log count and next address, and the answer is 1; where out is not five
 // numbers nothing is written anywhere, and the answer is 0.
+#[tactic(auto, using(crate::proofs::RunCallLaws::lent_refused))]
 pub fn bil_run(
     table: &[u8],
     state: &mut [u64],

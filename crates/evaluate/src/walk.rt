@@ -17,6 +17,9 @@ use operation::order::{Steps, steps_of};
 use operation::{Evaluated, after};
 use table::bytes;
 
+// "At most 64 bindings in force travel with the walk"
+const MOST_BINDINGS: usize = 64;
+
 // The count is how many entries the log has.
 pub fn eval(
     s: &[u8],
@@ -64,7 +67,7 @@ pub fn eval(
                 AtOnce::Deeper => eval(s, state, log, bindings, count, a),
             };
             let Evaluated::Of(x, n) = e else { return e };
-            if 64 <= bindings.count {
+            if MOST_BINDINGS <= bindings.count {
                 return Evaluated::Stopped(codes::TOO_MANY_BINDINGS, n);
             }
             eval(s, state, log, bindings.with(r.a, x), n, b)

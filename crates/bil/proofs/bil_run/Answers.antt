@@ -4,13 +4,8 @@ use native.Mathlib.Omega.{arith}
 use lib.ListN.{length, length-set}
 use borrow.Author.Rules.{rules}
 use Rattle.starts.specs.Lent.{lent}
-use Rattle.bil.proofs.RunCallLaws.{call_refuses, call_runs}
+use Rattle.bil.proofs.RunCallLaws.{call_runs}
 use Rattle.bil.proofs.bil_run.Goals as goal
-
-pub returns-then-out-ne5 : goal.returns-then-out-ne5
-returns-then-out-ne5 c =
-    let other : length c.args.out.now ≡ 5 → ⊥ = omega (arith, c.if-out-ne5.true) in
-    call_refuses (lent c.args.table.now c.args.state.now c.args.log.now c.args.count c.args.next c.args.budget) c.args.out.now other
 
 pub bounds-out-1 : goal.bounds-out-1
 bounds-out-1 c = simp length-set (omega arith)
@@ -26,5 +21,5 @@ bounds-out-4 c = simp length-set (omega arith)
 
 pub returns : goal.returns
 returns c =
-    let five : length c.args.out.now ≡ 5 = omega (arith, c.if-out-ne5.false) in
+    let five : length c.args.out.now ≡ 5 = omega arith in
     call_runs (lent c.args.table.now c.args.state.now c.args.log.now c.args.count c.args.next c.args.budget) c.args.out.now five c.run-r.ensures c.code_of-code.ensures c.place_of-place.ensures

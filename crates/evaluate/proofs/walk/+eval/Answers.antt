@@ -237,8 +237,8 @@ returns-in_default-e t c =
     ] in
     let_stops here way first c.in_default-e.is
 
-pub returns-then-bindings-ge64 : goal.returns-then-bindings-ge64
-returns-then-bindings-ge64 t c =
+pub returns-then-bindings-ge-MOST_BINDINGS : goal.returns-then-bindings-ge-MOST_BINDINGS
+returns-then-bindings-ge-MOST_BINDINGS t c =
     let here : At c.args.s.now c.args.state.now c.args.log.now c.args.bindings c.args.count c.args.i c.expression-r.result =
     record { ready = c.requires.ready; inside = c.requires.i_bound; is = c.expression-r.ensures } in
     let way : steps_of c.expression-r.result ≡ Let c.in-Let.a c.in-Let.b = sym c.steps_of-o.ensures ∙ c.in-Let.is in
@@ -247,7 +247,7 @@ returns-then-bindings-ge64 t c =
       | in-Is-p-2 w ↦ at_once_leaves c.requires.ready (lower (below here way).0 c.requires.i_bound) c.at_once-p-in-Let.ensures w.in-Is-p-2.is w.log-is w.e-is
       | in-Deeper-p-2 w ↦ walked w.eval-e-in-Deeper-p-2.ensures w.log-is w.e-is
     ] in
-    let_full here way first c.in-Of-e.is c.if-bindings-ge64.true
+    let_full here way first c.in-Of-e.is c.if-bindings-ge-MOST_BINDINGS.true
 
 pub with-requires : goal.with-requires
 with-requires t c =
@@ -260,7 +260,7 @@ with-requires t c =
       | in-Deeper-p-2 w ↦ walked w.eval-e-in-Deeper-p-2.ensures w.log-is w.e-is
     ] in
     let fits = let_asks here way first c.in-Of-e.is in
-    record { count_lt_most_bindings = c.if-bindings-ge64.false; x_bound = fits.0; v_bound = fits.1 }
+    record { count_lt_most_bindings = c.if-bindings-ge-MOST_BINDINGS.false; x_bound = fits.0; v_bound = fits.1 }
 
 pub eval-requires : goal.eval-requires
 eval-requires t c =
@@ -272,10 +272,10 @@ eval-requires t c =
       | in-Is-p-2 w ↦ at_once_leaves c.requires.ready (lower (below here way).0 c.requires.i_bound) c.at_once-p-in-Let.ensures w.in-Is-p-2.is w.log-is w.e-is
       | in-Deeper-p-2 w ↦ walked w.eval-e-in-Deeper-p-2.ensures w.log-is w.e-is
     ] in
-    asked c.decreases (below here way).1 c.requires.i_bound (let_ready here way first c.in-Of-e.is c.if-bindings-ge64.false c.with.ensures)
+    asked c.decreases (below here way).1 c.requires.i_bound (let_ready here way first c.in-Of-e.is c.if-bindings-ge-MOST_BINDINGS.false c.with.ensures)
 
-pub returns-else-bindings-ge64 : goal.returns-else-bindings-ge64
-returns-else-bindings-ge64 t c =
+pub returns-else-bindings-ge-MOST_BINDINGS : goal.returns-else-bindings-ge-MOST_BINDINGS
+returns-else-bindings-ge-MOST_BINDINGS t c =
     let here : At c.args.s.now c.args.state.now c.args.log.now c.args.bindings c.args.count c.args.i c.expression-r.result =
     record { ready = c.requires.ready; inside = c.requires.i_bound; is = c.expression-r.ensures } in
     let way : steps_of c.expression-r.result ≡ Let c.in-Let.a c.in-Let.b = sym c.steps_of-o.ensures ∙ c.in-Let.is in
@@ -284,7 +284,7 @@ returns-else-bindings-ge64 t c =
       | in-Is-p-2 w ↦ at_once_leaves c.requires.ready (lower (below here way).0 c.requires.i_bound) c.at_once-p-in-Let.ensures w.in-Is-p-2.is w.log-is w.e-is
       | in-Deeper-p-2 w ↦ walked w.eval-e-in-Deeper-p-2.ensures w.log-is w.e-is
     ] in
-    let_leaves here way first c.in-Of-e.is c.if-bindings-ge64.false c.with.ensures c.eval.ensures
+    let_leaves here way first c.in-Of-e.is c.if-bindings-ge-MOST_BINDINGS.false c.with.ensures c.eval.ensures
 
 pub at_once-p-requires-in-Three : goal.at_once-p-requires-in-Three
 at_once-p-requires-in-Three t c =
