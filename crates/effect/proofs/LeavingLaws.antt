@@ -21,7 +21,7 @@ use Rattle.operation.specs.declared.Evaluated.TheVariants as Ended
 use Rattle.operation.specs.Outcome.{Leaves, answer}
 use Rattle.running.specs.declared.Ending.{Ending}
 use Rattle.running.specs.declared.Ending.TheVariants.{Done, Stopped}
-use Rattle.running.specs.Run.{Left, left, stop, holds, target}
+use Rattle.running.specs.Run.{Left, left, stop, target}
 use Rattle.running.proofs.PairLaws.{declared, state_fits}
 use Rattle.evaluate.specs.Ready.{Ready}
 use Rattle.evaluate.proofs.WentLaws.{Went, Known}

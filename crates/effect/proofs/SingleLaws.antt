@@ -7,7 +7,7 @@ use lib.ListN.{length}
 use Rattle.value.specs.declared.Value.{Value}
 use Rattle.table.specs.declared.Node.{Node}
 use Rattle.table.specs.Bytes.{header, statement}
-use Rattle.table.specs.Decode.{context, block_at}
+use Rattle.table.specs.Decode.{block_at}
 use Rattle.memory.specs.Log.{entries, room_in}
 use Rattle.evaluation.specs.State.{moved}
 use Rattle.bindings.specs.Bound as Bound

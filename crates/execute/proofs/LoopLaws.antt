@@ -15,7 +15,7 @@ use Rattle.running.specs.Run.{Left}
 use Rattle.evaluate.proofs.WentLaws.{went_trans}
 use Rattle.effect.specs.declared.Ran.{Ran}
 use Rattle.effect.specs.Leaving.{Running, Standing, RunLeaves, goes_on, runs}
-use Rattle.effect.proofs.StandingLaws.{Good, inside}
+use Rattle.effect.proofs.StandingLaws.{Good}
 use Rattle.effect.proofs.LeavingLaws.{leaves_left}
 use Rattle.effect.proofs.AloneLaws.{run_end}
 use Rattle.execute.specs.Extent.{bodies_of}

@@ -1,10 +1,10 @@
 -- A guard that was tested: what the run of its statement goes on with. Assumes nothing.
 use mathlib.Core.Path.{◌≡◌, refl, sym, ap, subst, ◌∙◌}
-use mathlib.Core.List.{List, []}
+use mathlib.Core.List.{List}
 use Prim.Native.Nat.{ℕ, ◌<◌}
 use lib.ListN.{length}
 use Rattle.table.specs.Bytes.{header}
-use Rattle.table.specs.Decode.{context, expr}
+use Rattle.table.specs.Decode.{context}
 use Rattle.table.proofs.ExpressionLaws.{expr_view}
 use Rattle.memory.specs.Log.{Log, entries, holding, room_in}
 use Rattle.memory.proofs.LogLaws.{◌⊑◌, entries_holding}

@@ -3,7 +3,7 @@ use mathlib.Core.Path.{◌≡◌, refl, sym, ap, ap₂, subst, ◌∙◌}
 use mathlib.Core.Bool.{Bool}
 use mathlib.Core.List.{List, [], ◌∷◌}
 use Prim.Native.Nat.{ℕ}
-use lib.ListN.{length, get_or}
+use lib.ListN.{length}
 use Rattle.std.specs.Borrow.{Bor, MutBor}
 use borrow.Author.Tests.{eq-eqb, ne_eqb}
 use Rattle.base.specs.declared.Answer.{Answer}
@@ -17,7 +17,7 @@ use Rattle.running.proofs.StartLaws.{result_ran}
 use Rattle.running.proofs.AcceptedLaws.{next_accepts}
 use Rattle.runner.specs.declared.Outcome.{Outcome}
 use Rattle.runner.specs.Given.{Gives}
-use Rattle.demands.specs.Demands.{Library, answer_of, Demand1, Demand2, Demand3}
+use Rattle.demands.specs.Demands.{answer_of, Demand1, Demand2, Demand3}
 use Rattle.demands.proofs.Theorems as Demands
 use Rattle.bil.specs.RunCall.{Left, left, numbers}
 use Rattle.bil.specs.RunCall as Outside

@@ -1,7 +1,7 @@
 -- The label of an expression is what its op makes of the labels of the expressions that its record names. Assumes nothing.
 use mathlib.Core.Path.{◌≡◌, refl}
 use mathlib.Core.Bool.{Bool, true}
-use mathlib.Core.List.{List, [], ◌∷◌}
+use mathlib.Core.List.{List}
 use Prim.Native.Nat.{ℕ, ◌<◌}
 use Rattle.table.specs.Bytes.{header, expression}
 use Rattle.table.specs.Fields.{operands, expression_rows, expression_row}

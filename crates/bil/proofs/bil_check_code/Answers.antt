@@ -1,6 +1,5 @@
 -- `bil::bil_check_code`: the code of the check's answer. Assumes nothing.
 use mathlib.Core.Path.{ap, ◌∙◌}
-use borrow.Author.Rules.{rules}
 use Rattle.base.specs.Refusals.{code_of}
 use Rattle.bil.proofs.bil_check_code.Goals as goal
 

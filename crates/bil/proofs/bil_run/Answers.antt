@@ -2,7 +2,6 @@
 use mathlib.Core.Path.{◌≡◌}
 use native.Mathlib.Omega.{arith}
 use lib.ListN.{length, length-set}
-use borrow.Author.Rules.{rules}
 use Rattle.starts.specs.Lent.{lent}
 use Rattle.bil.proofs.RunCallLaws.{call_runs}
 use Rattle.bil.proofs.bil_run.Goals as goal

@@ -1,6 +1,5 @@
 -- `bil::bil_seal_place`: the place of the seal check's answer. Assumes nothing.
 use mathlib.Core.Path.{ap, ◌∙◌}
-use borrow.Author.Rules.{rules}
 use Rattle.base.specs.Refusals.{place_of}
 use Rattle.bil.proofs.bil_seal_place.Goals as goal
 

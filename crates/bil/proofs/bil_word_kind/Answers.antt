@@ -1,6 +1,5 @@
 -- `bil::bil_word_kind`: the kind of the call's answer, case by case. Assumes nothing.
 use mathlib.Core.Path.{sym, ap, ◌∙◌}
-use borrow.Author.Rules.{rules}
 use Rattle.bil.specs.WordCalls.{kind}
 use Rattle.bil.proofs.bil_word_kind.Goals as goal
 

@@ -1,6 +1,5 @@
 -- `bil::bil_word_value`: the value of the call's answer, case by case. Assumes nothing.
 use mathlib.Core.Path.{sym, ap, ◌∙◌}
-use borrow.Author.Rules.{rules}
 use Rattle.bil.specs.WordCalls.{value}
 use Rattle.bil.proofs.bil_word_value.Goals as goal
 

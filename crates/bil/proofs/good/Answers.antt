@@ -1,5 +1,4 @@
 -- `bil::good`: the first test that fails decides, and the last one where none does. Assumes nothing.
-use borrow.Author.Rules.{rules}
 use Rattle.base.proofs.BoolLaws.{passed, failed, fails_here, goes_on}
 use Rattle.bil.proofs.good.Goals as goal
 

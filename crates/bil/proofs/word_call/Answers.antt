@@ -2,7 +2,6 @@
 use mathlib.Core.Path.{◌≡◌, sym, ap, ◌∙◌}
 use mathlib.Core.Bool.{Bool, true}
 use Prim.Native.Nat.{ℕ}
-use borrow.Author.Rules.{rules}
 use Rattle.std.specs.Prelude.{if◌then◌else◌}
 use Rattle.word.specs.declared.Computed.{Computed}
 use Rattle.word.specs.Subs.{binary}

@@ -2,7 +2,6 @@
 use mathlib.Core.Path.{sym, subst, ◌∙◌}
 use mathlib.Core.List.{◌++◌}
 use native.Mathlib.Omega.{arith}
-use borrow.Author.Rules.{rules}
 use Rattle.base.proofs.RefusalLaws.{refuses_here, answers_next}
 use Rattle.table.specs.Records.{header_rules, record_rules, Framed}
 use Rattle.table.proofs.RecordLaws.{read_holds}

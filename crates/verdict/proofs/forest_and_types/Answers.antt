@@ -1,6 +1,5 @@
 -- `forest_and_types`: the forest, and the types where it holds. Assumes nothing.
 use mathlib.Core.Path.{sym, ◌∙◌}
-use borrow.Author.Rules.{rules}
 use Rattle.base.proofs.RefusalLaws.{refuses_here, answers_next}
 use Rattle.forest.specs.Forest.{forest_rules}
 use Rattle.forest.proofs.UserLaws.{each_used}

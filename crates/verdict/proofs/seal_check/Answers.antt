@@ -1,7 +1,6 @@
 -- `seal_check`: the check, and the seals where it accepts. Assumes nothing.
 use mathlib.Core.Path.{sym, subst, ◌∙◌}
 use native.Mathlib.Omega.{arith}
-use borrow.Author.Rules.{rules}
 use Rattle.base.proofs.RefusalLaws.{refuses_here, answers_next}
 use Rattle.table.specs.Records.{Framed}
 use Rattle.typing.specs.Verdict.{check_rules, check}

@@ -1,6 +1,5 @@
 -- `guard::test`: by what the evaluation gave. Assumes nothing.
 use mathlib.Core.Path.{sym, ap, ◌∙◌}
-use borrow.Author.Rules.{rules}
 use Rattle.effect.proofs.LeavingLaws.{tested_by, test_leaves}
 use Rattle.effect.proofs.guard.test.Goals as goal
 

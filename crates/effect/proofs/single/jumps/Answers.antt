@@ -1,5 +1,4 @@
 -- `single::jumps`: by what the evaluation gave. Assumes nothing.
-use borrow.Author.Rules.{rules}
 use Rattle.effect.proofs.LeavingLaws.{ready}
 use Rattle.effect.proofs.SingleLaws.{jump_asks, jumps_on, jumps_not}
 use Rattle.effect.proofs.single.jumps.Goals as goal

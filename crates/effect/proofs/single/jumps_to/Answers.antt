@@ -1,6 +1,5 @@
 -- `single::jumps_to`: each case by what the value is. Assumes nothing.
 use mathlib.Core.Path.{◌≡◌, sym, ap, ◌∙◌}
-use borrow.Author.Rules.{rules}
 use Rattle.value.specs.declared.Value.{Value}
 use Rattle.running.specs.Run.{target}
 use Rattle.effect.specs.Leaving.{goes_on, stops_at, jump_of}

@@ -1,5 +1,4 @@
 -- `single::moves`: by what the evaluation gave. Assumes nothing.
-use borrow.Author.Rules.{rules}
 use Rattle.effect.proofs.LeavingLaws.{ready}
 use Rattle.effect.proofs.SingleLaws.{move_asks, moves_on, moves_not}
 use Rattle.effect.proofs.single.moves.Goals as goal

@@ -1,5 +1,4 @@
 -- `single::single`: by the op. Assumes nothing.
-use borrow.Author.Rules.{rules}
 use Rattle.effect.proofs.SingleLaws.{passes}
 use Rattle.effect.proofs.single.single.Goals as goal
 

@@ -1,8 +1,7 @@
 -- `evaluate::walk::eval`: each way is what its op makes of its operands in their order, whether a value was there at once or the walk went down
 -- to it. Assumes nothing.
-use Rattle.std.proofs.Common.{◌≡◌, subst, sym, ◌∙◌, List, ℕ, ◌*◌, ◌/◌, ◌≤◌, ◌<◌, arith, length}
+use Rattle.std.proofs.Common.{◌≡◌, subst, sym, ◌∙◌, List, ℕ, ◌/◌, ◌<◌, arith, length}
 use Rattle.table.specs.declared.Header.{Header}
-use Rattle.table.specs.declared.Node.{Node}
 use Rattle.table.specs.Bytes.{header}
 use Rattle.table.specs.Records.{Framed}
 use Rattle.table.specs.Decode.{context, expr}
@@ -11,7 +10,6 @@ use Rattle.evaluation.specs.Evaluation as Evaluation
 use Rattle.bindings.specs.declared.Bindings.{Bindings}
 use Rattle.bindings.specs.Bound.{bindings_of}
 use Rattle.operation.specs.declared.Evaluated.{Evaluated}
-use Rattle.operation.specs.declared.order.Steps.{Steps}
 use Rattle.operation.specs.declared.order.Steps.TheVariants.{Leaf, One, Two, Let, Three}
 use Rattle.operation.specs.Order.{steps_of}
 use Rattle.operation.specs.Outcome.{Leaves}

@@ -13,7 +13,6 @@ use Rattle.operation.specs.declared.Evaluated.{Evaluated}
 use Rattle.operation.specs.Outcome.{Leaves}
 use Rattle.evaluate.specs.Ready.{Ready}
 use Rattle.evaluate.proofs.ArmLaws.{at_once_asks, at_once_leaves}
-use borrow.Author.Rules.{rules}
 use Rattle.evaluate.proofs.whole.whole.Goals as goal
 
 -- where no binding is in force

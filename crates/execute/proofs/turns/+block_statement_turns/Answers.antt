@@ -1,5 +1,5 @@
 -- `turns::block`, `statement` and `turns`: what each leaves is what the run of its statements leaves. Assumes nothing.
-use Rattle.std.proofs.Common.{◌≡◌, sym, ap, subst, ◌∙◌, ℕ, suc, ◌+◌, ◌≤◌, ◌<◌, arith}
+use Rattle.std.proofs.Common.{sym, ap, subst, ◌∙◌, ℕ, suc, ◌+◌, ◌≤◌, ◌<◌, arith}
 use Rattle.table.specs.declared.Header.{Header}
 use Rattle.table.specs.declared.Node.{Node}
 use Rattle.table.specs.Records.{Framed}

@@ -1,7 +1,7 @@
 -- `turns::block`, `statement` and `turns`: a block's loop keeps that the rest of the block is what is left to run, a while's loop that the
 -- while is. The measure is three times the ticks, and 2 more for a block, 1 for a statement, 0 for a while's turns: a block and its
 -- statements may have the same ticks, and a body has fewer than its statement. Assumes nothing.
-use Rattle.std.proofs.Common.{ℕ, suc, ◌+◌, ◌-◌, ◌*◌}
+use Rattle.std.proofs.Common.{suc, ◌+◌, ◌-◌, ◌*◌}
 use Rattle.table.specs.Decode.{block_at}
 use Rattle.effect.specs.Leaving.{runs}
 use Rattle.execute.specs.Extent.{bodies_of}

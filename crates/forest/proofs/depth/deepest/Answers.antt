@@ -3,7 +3,6 @@ use mathlib.Core.Path.{◌≡◌, refl, ap₂, subst, sym, ◌∙◌}
 use mathlib.Core.List.{List, map}
 use Prim.Native.Nat.{ℕ, max}
 use native.Mathlib.Nat.{max-zero}
-use borrow.Author.Rules.{rules}
 use lib.ListN.{get_or}
 use Rattle.forest.specs.declared.operands.Operands.{Operands}
 use Rattle.forest.specs.Forest.{largest}

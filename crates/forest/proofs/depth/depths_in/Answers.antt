@@ -2,12 +2,11 @@
 -- the measure what is left of them. Assumes nothing.
 use mathlib.Core.Path.{◌≡◌, refl, ap, sym, ◌∙◌}
 use mathlib.Core.List.{List, map}
-use Prim.Native.Nat.{ℕ, ◌+◌, ◌≤◌, ◌-◌}
+use Prim.Native.Nat.{ℕ, ◌+◌}
 use native.Mathlib.Omega.{arith}
-use borrow.Author.Rules.{rules}
-use lib.ListN.{length, get_or, length-set}
+use lib.ListN.{get_or, length-set}
 use Rattle.forest.specs.Forest.{largest, depths as depthsOf}
-use Rattle.forest.proofs.DepthLaws.{Kept, none_kept, depth_next, keep, too_deep, none_too_deep}
+use Rattle.forest.proofs.DepthLaws.{none_kept, depth_next, keep, too_deep, none_too_deep}
 use Rattle.forest.proofs.OperandLaws.{operands_named, operands_below, earlier}
 use Rattle.forest.proofs.depth.depths_in.Goals as goal
 use Rattle.forest.proofs.depth.depths_in.Lts

@@ -1,11 +1,7 @@
 -- `nesting::left`: the invariant is that statement i has reached the ends from r on, the measure r. Assumes nothing.
-use mathlib.Core.Path.{◌≡◌}
 use mathlib.Core.List.{List}
-use Prim.Native.Nat.{ℕ, ◌-◌, ◌≤◌, ◌<◌}
-use native.Mathlib.Decide.{dec_lt}
-use native.Mathlib.Omega.{arith}
+use Prim.Native.Nat.{ℕ, ◌≤◌, ◌<◌}
 use lib.ListN.{get_or}
-use borrow.Author.Rules.{rules}
 use Rattle.forest.proofs.nesting.left.Given as goal
 
 -- what is known when all but the first r ends are dropped

@@ -2,14 +2,12 @@
 -- one, of its owner and so on are kept. The measure is the number of statements left. Assumes nothing.
 use mathlib.Core.Path.{◌≡◌, refl, sym, ap}
 use mathlib.Core.List.{List}
-use Prim.Native.Nat.{ℕ, suc, ◌-◌, ◌≤◌, ◌<◌}
+use Prim.Native.Nat.{ℕ, suc, ◌≤◌, ◌<◌}
 use native.Mathlib.Nat.{le_refl}
 use native.Mathlib.Omega.{arith}
-use lib.ListN.{length, length-set}
+use lib.ListN.{length-set}
 use borrow.Author.Count.{below_none, below_more}
-use borrow.Author.Rules.{rules}
 use borrow.Author.Tests.{le-leb, lt-leb}
-use Rattle.base.specs.Refusals.{HoldsBelow}
 use Rattle.base.proofs.RefusalLaws.{one_rule_accepted, one_rule_refused}
 use Rattle.table.specs.declared.Header.{Header}
 use Rattle.table.specs.Bytes.{header}
@@ -18,7 +16,6 @@ use Rattle.blocks.specs.Owners.{owner}
 use Rattle.forest.specs.Forest.{nesting, nesting_rule}
 use Rattle.forest.proofs.NestingLaws.{Kept, none, kept_left, kept_more, kept_count, end_inside_all}
 use Rattle.forest.proofs.nesting.nestings_ok.Goals as goal
-use Rattle.forest.proofs.nesting.nestings_ok.Invariants.{Passed}
 use Rattle.forest.proofs.nesting.nestings_ok.Lts
 use Rattle.forest.proofs.nesting.nestings_ok.Tie
 use Rattle.forest.proofs.nesting.nestings_ok.Reads

@@ -1,22 +1,12 @@
 -- `nesting::nestings_ok`: one statement a turn. The invariant: every statement passed is nested at most 32 deep, and the ends of the last
 -- one, of its owner and so on are kept. The measure is the number of statements left. Assumes nothing.
-use mathlib.Core.Path.{◌≡◌, refl, sym, ap}
+use mathlib.Core.Path.{◌≡◌}
 use mathlib.Core.List.{List}
-use Prim.Native.Nat.{ℕ, suc, ◌-◌, ◌≤◌, ◌<◌}
-use native.Mathlib.Nat.{le_refl}
-use native.Mathlib.Omega.{arith}
-use lib.ListN.{length, length-set}
-use borrow.Author.Count.{below_none, below_more}
-use borrow.Author.Rules.{rules}
-use borrow.Author.Tests.{le-leb, lt-leb}
+use Prim.Native.Nat.{ℕ, ◌-◌, ◌≤◌}
+use lib.ListN.{length}
 use Rattle.base.specs.Refusals.{HoldsBelow}
-use Rattle.base.proofs.RefusalLaws.{one_rule_accepted, one_rule_refused}
-use Rattle.table.specs.declared.Header.{Header}
-use Rattle.table.specs.Bytes.{header}
-use Rattle.table.specs.Records.{second_end}
-use Rattle.blocks.specs.Owners.{owner}
-use Rattle.forest.specs.Forest.{nesting, nesting_rule}
-use Rattle.forest.proofs.NestingLaws.{Kept, none, kept_left, kept_more, kept_count, end_inside_all}
+use Rattle.forest.specs.Forest.{nesting_rule}
+use Rattle.forest.proofs.NestingLaws.{Kept}
 use Rattle.forest.proofs.nesting.nestings_ok.Given as goal
 
 -- what is known when the first i statements are passed

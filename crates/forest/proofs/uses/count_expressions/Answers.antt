@@ -1,10 +1,9 @@
 -- `uses::count_expressions`: the invariant is that what the first i expressions name is counted, the measure what is left of them. Assumes nothing.
-use Prim.Native.Nat.{◌-◌, ◌*◌, ◌≤◌}
+use Prim.Native.Nat.{◌*◌}
 use native.Mathlib.Omega.{arith}
-use borrow.Author.Rules.{rules}
 use Rattle.table.specs.Records.{most_expressions}
 use Rattle.forest.specs.Forest.{operands_of}
-use Rattle.forest.proofs.CountLaws.{SoFar, none_yet, Turn, turn, all_counted, counted_none, counters_on}
+use Rattle.forest.proofs.CountLaws.{none_yet, Turn, turn, all_counted, counted_none, counters_on}
 use Rattle.forest.proofs.OperandLaws.{operands_named, operands_below}
 use Rattle.forest.proofs.uses.count_expressions.Goals as goal
 use Rattle.forest.proofs.uses.count_expressions.Lts

@@ -1,10 +1,9 @@
 -- `uses::count_statements`: the invariant is that what the first i statements name is counted, the measure what is left of them. Assumes nothing.
-use Prim.Native.Nat.{◌-◌, ◌*◌, ◌≤◌}
+use Prim.Native.Nat.{◌*◌}
 use native.Mathlib.Omega.{arith}
-use borrow.Author.Rules.{rules}
 use Rattle.table.specs.Records.{most_expressions}
 use Rattle.forest.specs.Forest.{expressions_of}
-use Rattle.forest.proofs.CountLaws.{SoFar, none_yet, Turn, turn, all_counted}
+use Rattle.forest.proofs.CountLaws.{none_yet, Turn, turn, all_counted}
 use Rattle.forest.proofs.OperandLaws.{expressions_named, expressions_below}
 use Rattle.forest.proofs.uses.count_statements.Goals as goal
 use Rattle.forest.proofs.uses.count_statements.Lts

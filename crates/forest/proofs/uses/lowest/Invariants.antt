@@ -1,13 +1,6 @@
 -- `uses::lowest`: the invariant is that every counter passed is 1, the measure what is left of the places. Assumes nothing.
-use mathlib.Core.Path.{◌≡◌, sym}
 use Prim.Native.Nat.{◌≤◌, ◌-◌}
-use native.Mathlib.Omega.{arith}
-use lib.ListN.{get_or}
-use borrow.Author.Count.{below_none, below_more}
-use borrow.Author.Rules.{rules}
-use borrow.Author.Tests.{eq-eqb, ne_eqb}
 use Rattle.base.specs.Refusals.{HoldsBelow}
-use Rattle.base.proofs.RefusalLaws.{one_rule_accepted, one_rule_refused}
 use Rattle.forest.specs.Counting.{count_rule}
 use Rattle.forest.proofs.uses.lowest.Given as goal
 

@@ -1,6 +1,5 @@
 -- `uses::note`: the store is one more at its place. Assumes nothing.
 use native.Mathlib.Omega.{arith}
-use borrow.Author.Rules.{rules}
 use Rattle.forest.proofs.CountLaws.{counted_one}
 use Rattle.forest.proofs.uses.note.Goals as goal
 

@@ -4,7 +4,6 @@ use mathlib.Core.List.{List, ◌∷◌}
 use Prim.Native.Nat.{ℕ, ◌-◌, ◌^◌, ◌≤◌, ◌<◌}
 use native.Mathlib.Omega.{arith}
 use lib.ListN.{length}
-use borrow.Author.Rules.{rules}
 use Rattle.forest.specs.declared.operands.Operands.{Operands}
 use Rattle.forest.specs.Counting.{listed, AllBelow, Counted, Counters}
 use Rattle.forest.proofs.CountLaws.{counted_none, counted_then, counters_on}

@@ -1,7 +1,6 @@
 -- `uses::uses_in`: the counters count every use, and the lowest that is not 1 is where refusal 8 comes. Assumes nothing.
 use mathlib.Core.Path.{◌∙◌}
 use native.Mathlib.Omega.{arith}
-use borrow.Author.Rules.{rules}
 use Rattle.forest.proofs.CountLaws.{counted_refusal}
 use Rattle.forest.proofs.uses.uses_in.Goals as goal
 

@@ -1,6 +1,5 @@
 -- `after::of_store`: by what the store gave. Assumes nothing.
 use mathlib.Core.Path.{sym, ap}
-use borrow.Author.Rules.{rules}
 use Rattle.operation.specs.After.{store_after}
 use Rattle.operation.proofs.after.of_store.Goals as goal
 

@@ -2,7 +2,6 @@
 use mathlib.Core.Path.{◌≡◌, refl, subst}
 use Prim.Native.Nat.{ℕ}
 use lib.Dec.{eqb}
-use borrow.Author.Rules.{rules}
 use Rattle.base.proofs.NumberedLaws.{numbered_other}
 use Rattle.value.specs.declared.Value.{Value}
 use Rattle.value.specs.Values as Values

@@ -1,6 +1,5 @@
 -- `after::one`: by what the operand gave. Assumes nothing.
 use mathlib.Core.Path.{sym, ap, ◌∙◌}
-use borrow.Author.Rules.{rules}
 use Rattle.value.specs.declared.Value.{Value}
 use Rattle.operation.specs.declared.Evaluated.TheVariants.{Of}
 use Rattle.operation.specs.After.{one_after}

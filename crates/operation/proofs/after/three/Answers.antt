@@ -1,6 +1,5 @@
 -- `after::three`: by what the third operand gave. Assumes nothing.
 use mathlib.Core.Path.{sym, ap, subst}
-use borrow.Author.Rules.{rules}
 use Rattle.evaluation.specs.Evaluation.{Evaluated}
 use Rattle.operation.specs.After.{three_after}
 use Rattle.operation.specs.Outcome.{Leaves}

@@ -1,6 +1,5 @@
 -- `after::two`: by what the second operand gave. Assumes nothing.
 use mathlib.Core.Path.{sym, ap, ◌∙◌}
-use borrow.Author.Rules.{rules}
 use Rattle.value.specs.declared.Value.{Value}
 use Rattle.operation.specs.declared.Evaluated.TheVariants.{Of}
 use Rattle.operation.specs.After.{two_after}

@@ -1,7 +1,6 @@
 -- `leaf::at_once`: the expression's record. Assumes nothing.
 use mathlib.Core.Path.{◌≡◌, sym, ap, subst, ◌∙◌}
 use Prim.Native.Nat.{◌<◌}
-use borrow.Author.Rules.{rules}
 use Rattle.table.specs.declared.Node.{Node}
 use Rattle.table.specs.Decode.{context}
 use Rattle.bindings.specs.Bound.{bindings_of}

@@ -1,6 +1,5 @@
 -- `leaf::leaf`: by what the record gave. Assumes nothing.
 use mathlib.Core.Path.{sym, ap, ◌∙◌}
-use borrow.Author.Rules.{rules}
 use Rattle.operation.specs.ByOp.{leaf_value, value_in}
 use Rattle.operation.proofs.leaf.leaf.Goals as goal
 

@@ -1,7 +1,6 @@
 -- `leaf::of_record`: each arm is what stands under its op. Assumes nothing.
 use mathlib.Core.Path.{refl, ap}
 use Prim.Native.Nat.{ℕ}
-use borrow.Author.Rules.{rules}
 use Rattle.base.proofs.NumberedLaws.{numbered_other}
 use Rattle.value.specs.declared.ValueType.{ValueType}
 use Rattle.value.specs.declared.Value.TheVariants.{Word, Unknown}

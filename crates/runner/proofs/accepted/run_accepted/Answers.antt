@@ -1,6 +1,5 @@
 -- `accepted::run_accepted`: the run of the whole block, its ticks counted from the budget. Assumes nothing.
 use native.Mathlib.Omega.{arith}
-use borrow.Author.Rules.{rules}
 use Rattle.starts.specs.Lent.{lent}
 use Rattle.runner.proofs.RanLaws.{running, whole, ticks_most, gives_ran, again}
 use Rattle.runner.proofs.accepted.run_accepted.Goals as goal

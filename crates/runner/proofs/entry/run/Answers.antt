@@ -1,7 +1,6 @@
 -- `entry::run`: the check, the start's rules where it accepts, and the run where both do. Assumes nothing.
 use mathlib.Core.Path.{sym, subst, ◌∙◌}
 use native.Mathlib.Omega.{arith}
-use borrow.Author.Rules.{rules}
 use Rattle.table.specs.Records.{Framed}
 use Rattle.starts.specs.Lent.{lent}
 use Rattle.verdict.proofs.CheckLaws.{checked}

@@ -1,6 +1,5 @@
 -- `numbers::code_of`: one number an ending. Assumes nothing.
 use mathlib.Core.Path.{sym, ap}
-use borrow.Author.Rules.{rules}
 use Rattle.running.specs.Result.{code_of}
 use Rattle.runner.proofs.numbers.code_of.Goals as goal
 

@@ -1,6 +1,5 @@
 -- `numbers::place_of`: one number an ending. Assumes nothing.
 use mathlib.Core.Path.{sym, ap}
-use borrow.Author.Rules.{rules}
 use Rattle.running.specs.Result.{place_of}
 use Rattle.runner.proofs.numbers.place_of.Goals as goal
 

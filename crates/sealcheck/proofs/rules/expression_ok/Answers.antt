@@ -1,6 +1,5 @@
 -- `sealcheck::rules::expression_ok`: by what the walk found. Assumes nothing.
 use mathlib.Core.Path.{ap, sym, ◌∙◌}
-use borrow.Author.Rules.{rules}
 use Rattle.sealing.specs.Labels.{has_label}
 use Rattle.sealing.specs.Verdict.{expression_seal_rule}
 use Rattle.typecheck.proofs.NamedLaws.{asked_by_head}

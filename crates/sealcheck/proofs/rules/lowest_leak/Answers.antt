@@ -1,9 +1,7 @@
 -- `sealcheck::rules::lowest_leak`: the invariant is that no expression passed leaks, the measure what is left of them.
 -- Assumes nothing.
 use mathlib.Core.Path.{refl, ap}
-use Prim.Native.Nat.{◌-◌}
-use borrow.Author.Rules.{rules}
-use Rattle.base.proofs.PassedLaws.{Passed, none_passed, one_passed, refuses, accepts}
+use Rattle.base.proofs.PassedLaws.{none_passed, one_passed, refuses, accepts}
 use Rattle.table.specs.declared.Header.{Header}
 use Rattle.sealing.specs.Verdict.{expression_seal_rule}
 use Rattle.sealcheck.proofs.rules.lowest_leak.Goals as goal

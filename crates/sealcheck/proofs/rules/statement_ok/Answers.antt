@@ -1,7 +1,6 @@
 -- `sealcheck::rules::statement_ok`: each arm is what stands under its op; another op asks nothing. Assumes nothing.
 use mathlib.Core.Path.{refl, ap, ap₂, ◌∙◌}
 use mathlib.Core.Bool.{false}
-use borrow.Author.Rules.{rules}
 use Rattle.table.specs.Fields.{statement_rows}
 use Rattle.sealing.specs.Labels.{may_go}
 use Rattle.sealing.specs.Verdict.{statement_seals, statement_clean}

@@ -1,6 +1,5 @@
 -- `sealing::by_op::is_sealed`: its record's label. Assumes nothing.
 use mathlib.Core.Path.{ap}
-use borrow.Author.Rules.{rules}
 use lib.Dec.{eqb}
 use Rattle.table.specs.declared.Variable.{Variable}
 use Rattle.table.specs.Decode.{context}

@@ -1,6 +1,5 @@
 -- `sealing::by_op::three`: a store is what stands under its op; another op takes the three labels. Assumes nothing.
 use mathlib.Core.Path.{ap, ◌∙◌}
-use borrow.Author.Rules.{rules}
 use Rattle.base.proofs.NumberedLaws.{numbered_other}
 use Rattle.sealing.specs.Labels.{either}
 use Rattle.sealing.specs.ByOp.{threes, three_label}

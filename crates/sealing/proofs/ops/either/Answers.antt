@@ -1,11 +1,9 @@
 -- `sealing::ops::either`: by what was found of the operands. Assumes nothing.
 use mathlib.Core.Path.{◌≡◌, refl, ap₂, sym}
-use borrow.Author.Rules.{rules}
 use Rattle.sealing.specs.declared.Label.{Label}
 use Rattle.sealing.specs.Labels as Labels
 use Rattle.sealing.proofs.ops.either.Goals as goal
 use Rattle.sealing.proofs.ops.either.Lts
-use Rattle.sealing.proofs.ops.either.Tie
 use Rattle.sealing.proofs.ops.either.Reads
 
 abbrev Start : Type 0

@@ -1,6 +1,5 @@
 -- `sealing::ops::lets`: by the bound expression's label. Assumes nothing.
 use mathlib.Core.Path.{ap, ◌∙◌}
-use borrow.Author.Rules.{rules}
 use Rattle.sealing.specs.Labels as Labels
 use Rattle.sealing.proofs.ops.lets.Goals as goal
 

@@ -1,6 +1,5 @@
 -- `sealing::ops::may_go`: by what was found. Assumes nothing.
 use mathlib.Core.Path.{ap, sym}
-use borrow.Author.Rules.{rules}
 use Rattle.sealing.specs.Labels.{may_go}
 use Rattle.sealing.proofs.ops.may_go.Goals as goal
 

@@ -1,6 +1,5 @@
 -- `sealing::ops::store`: by the address's label. Assumes nothing.
 use mathlib.Core.Path.{ap₂, ◌∙◌}
-use borrow.Author.Rules.{rules}
 use Rattle.sealing.specs.Labels as Labels
 use Rattle.sealing.proofs.ops.store.Goals as goal
 

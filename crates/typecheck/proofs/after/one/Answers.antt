@@ -1,6 +1,5 @@
 -- `typecheck::after::one`: by what was found of the operand. Assumes nothing.
 use mathlib.Core.Path.{ap, sym, ◌∙◌}
-use borrow.Author.Rules.{rules}
 use Rattle.typing.specs.ByOp.{one_type}
 use Rattle.typecheck.proofs.StrictLaws.{one_none}
 use Rattle.typecheck.proofs.after.one.Goals as goal

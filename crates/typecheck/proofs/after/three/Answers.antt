@@ -1,6 +1,5 @@
 -- `typecheck::after::three`: by what was found of the operands. Assumes nothing.
 use mathlib.Core.Path.{◌≡◌, refl, ap, ap₂, sym, ◌∙◌}
-use borrow.Author.Rules.{rules}
 use Rattle.typing.specs.declared.Typed.{Typed}
 use Rattle.typing.specs.ByOp.{three_type}
 use Rattle.typecheck.proofs.StrictLaws.{three_first, three_second, three_third}

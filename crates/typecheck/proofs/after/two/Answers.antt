@@ -1,6 +1,5 @@
 -- `typecheck::after::two`: by what was found of the operands. Assumes nothing.
 use mathlib.Core.Path.{◌≡◌, refl, ap₂, sym, ◌∙◌}
-use borrow.Author.Rules.{rules}
 use Rattle.table.specs.Decode.{context}
 use Rattle.typing.specs.declared.Typed.{Typed}
 use Rattle.typing.specs.ByOp.{two_type}

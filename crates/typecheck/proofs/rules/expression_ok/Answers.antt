@@ -1,6 +1,5 @@
 -- `typecheck::rules::expression_ok`: by what the walk found. Assumes nothing.
 use mathlib.Core.Path.{ap, sym, ◌∙◌}
-use borrow.Author.Rules.{rules}
 use Rattle.typing.specs.Infer.{has_type}
 use Rattle.typing.specs.Verdict.{expression_type_rule}
 use Rattle.typecheck.proofs.NamedLaws.{asked_by_head}

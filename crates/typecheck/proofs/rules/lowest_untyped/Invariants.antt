@@ -1,10 +1,7 @@
 -- `typecheck::rules::lowest_untyped`: the invariant is that every expression passed has a type, the measure what is left of them.
 -- Assumes nothing.
-use mathlib.Core.Path.{refl, ap}
 use Prim.Native.Nat.{◌-◌}
-use borrow.Author.Rules.{rules}
-use Rattle.base.proofs.PassedLaws.{Passed, none_passed, one_passed, refuses, accepts}
-use Rattle.table.specs.declared.Header.{Header}
+use Rattle.base.proofs.PassedLaws.{Passed}
 use Rattle.typing.specs.Verdict.{expression_type_rule}
 use Rattle.typecheck.proofs.rules.lowest_untyped.Given as goal
 

@@ -1,6 +1,5 @@
 -- `typecheck::rules::statement_ok`: each arm is what stands under its op; another op asks nothing. Assumes nothing.
 use mathlib.Core.Path.{refl, ap, ap₂, ◌∙◌}
-use borrow.Author.Rules.{rules}
 use Rattle.value.specs.declared.ValueType.TheVariants.{Imm}
 use Rattle.table.specs.declared.Header.{Header}
 use Rattle.table.specs.Fields.{statement_rows}

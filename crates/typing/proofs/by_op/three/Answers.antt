@@ -1,6 +1,5 @@
 -- `typing::by_op::three`: each arm is what stands under its op; another op gives no type. Assumes nothing.
 use mathlib.Core.Path.{refl}
-use borrow.Author.Rules.{rules}
 use Rattle.base.proofs.NumberedLaws.{numbered_other}
 use Rattle.typing.specs.declared.Typed.TheVariants.{Untyped}
 use Rattle.typing.specs.ByOp.{threes, three_type}

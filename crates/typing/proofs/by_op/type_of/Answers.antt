@@ -1,6 +1,5 @@
 -- `typing::by_op::type_of`: its record's. Assumes nothing.
 use mathlib.Core.Path.{ap, ◌∙◌}
-use borrow.Author.Rules.{rules}
 use Rattle.table.specs.Decode.{declared_type, context}
 use Rattle.typing.proofs.by_op.type_of.Goals as goal
 

@@ -1,6 +1,5 @@
 -- `typing::ops::concat`: by both operands' types. Assumes nothing.
 use mathlib.Core.Path.{ap, ap₂, sym, ◌∙◌}
-use borrow.Author.Rules.{rules}
 use Rattle.typing.specs.declared.Typed.TheVariants.{Of}
 use Rattle.typing.specs.Infer as Infer
 use Rattle.typing.proofs.ops.concat.Goals as goal

@@ -1,6 +1,5 @@
 -- `typing::ops::is_type`: by what was found. Assumes nothing.
 use mathlib.Core.Path.{ap, sym, ◌∙◌}
-use borrow.Author.Rules.{rules}
 use Rattle.typing.specs.Infer.{is_type}
 use Rattle.typing.proofs.ops.is_type.Goals as goal
 

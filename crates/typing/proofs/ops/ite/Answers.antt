@@ -1,6 +1,5 @@
 -- `typing::ops::ite`: by the condition's type. Assumes nothing.
 use mathlib.Core.Path.{◌≡◌, ap, sym, ◌∙◌}
-use borrow.Author.Rules.{rules}
 use Rattle.typing.specs.declared.Typed.TheVariants.{Of}
 use Rattle.typing.specs.Infer as Infer
 use Rattle.typing.proofs.ops.ite.Goals as goal

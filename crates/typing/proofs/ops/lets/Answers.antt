@@ -1,6 +1,5 @@
 -- `typing::ops::lets`: by the bound expression's type. Assumes nothing.
 use mathlib.Core.Path.{ap, ◌∙◌}
-use borrow.Author.Rules.{rules}
 use Rattle.typing.specs.declared.Typed.TheVariants.{Of}
 use Rattle.typing.specs.Infer as Infer
 use Rattle.typing.proofs.ops.lets.Goals as goal

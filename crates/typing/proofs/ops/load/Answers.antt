@@ -1,6 +1,5 @@
 -- `typing::ops::load`: by the memory's type. Assumes nothing.
 use mathlib.Core.Path.{ap, sym, ◌∙◌}
-use borrow.Author.Rules.{rules}
 use Rattle.value.specs.declared.ValueType.TheVariants.{Imm}
 use Rattle.typing.specs.declared.Typed.TheVariants.{Of}
 use Rattle.typing.specs.Infer as Infer

@@ -1,6 +1,5 @@
 -- `typing::ops::same`: case by case. Assumes nothing.
 use mathlib.Core.Path.{ap₂, sym}
-use borrow.Author.Rules.{rules}
 use Rattle.typing.specs.Infer.{same_type}
 use Rattle.typing.proofs.ops.same.Goals as goal
 
