@@ -151,6 +151,7 @@ impl Value {
     }
 
     // An ite with this value as its condition: one of two values of one type, or unknown of that type.
+    #[tactic(auto, using(crate::proofs::ChoiceLaws::chosen, crate::proofs::ChoiceLaws::not_chosen, crate::proofs::ChoiceLaws::by_unknown, crate::proofs::ChoiceLaws::by_memory))]
     pub fn choose(self, then: Value, other: Value) -> Value
         requires sound { Sound then }
         requires sound_2 { Sound other }
