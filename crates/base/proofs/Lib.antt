@@ -1,5 +1,7 @@
 pub mod BoolLaws
+pub mod CodeLaws
 pub mod CourseLaws
+pub mod FaultLaws
 pub mod NumberedLaws
 pub mod PassedLaws
 pub mod RangeLaws

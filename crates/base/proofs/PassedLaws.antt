@@ -5,8 +5,7 @@ use mathlib.Core.List.{[], ◌∷◌}
 use Prim.Native.Nat.{ℕ, ◌+◌, ◌≤◌, ◌<◌}
 use native.Mathlib.Omega.{arith}
 use borrow.Author.Count.{below_none, below_more}
-use Rattle.base.specs.Refusals.{Rule, HoldsBelow, one_more, no_rule, refusal}
-use Rattle.base.specs.declared.Answer.TheVariants.{Accepted, Refused}
+use Rattle.base.specs.Refusals.{Rule, HoldsBelow, one_more, no_rule, Accepted, Refused, refusal}
 use Rattle.base.proofs.BoolLaws.{passed, failed}
 use Rattle.base.proofs.RefusalLaws.{accepted_iff, one_rule_accepted, one_rule_refused}
 

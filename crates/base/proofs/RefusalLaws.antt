@@ -1,18 +1,18 @@
 -- The answer is accepted exactly where every rule holds, and else the first rule that fails, at its lowest place; so at most one
 -- answer fits. Assumes nothing.
-use mathlib.Core.Path.{◌≡◌, refl, sym, subst, ◌∙◌}
+use mathlib.Core.Path.{◌≡◌, refl, ap, sym, subst, ◌∙◌}
 use mathlib.Core.Bool.{Bool, true, false}
 use mathlib.Core.List.{List, [], ◌∷◌, ◌++◌}
 use mathlib.Core.Logic.{◌↔◌}
-use mathlib.Core.Option.{Option, none, some}
+use Rattle.std.specs.Prelude.{Result, Option, Some, None, Ok, Err, IsErr, IsErrAnd}
 use Prim.Native.Nat.{ℕ, zero, suc, ◌<◌}
 use native.Mathlib.Nat.{not-suc-le-zero}
 use native.Mathlib.Decide.{dec_lt}
 use native.Mathlib.Omega.{arith}
 use Rattle.std.specs.Prelude.{if◌then◌else◌}
-use Rattle.base.specs.Refusals.{Rule, HoldsBelow, AllHold, no_rule, one_more, FirstFault, here, further, first_bad, refusal, whole}
-use Rattle.base.specs.declared.Answer.{Answer}
-use Rattle.base.specs.declared.Answer.TheVariants.{Accepted, Refused}
+use Rattle.base.specs.declared.codes.Code.{Code}
+use Rattle.base.specs.declared.Refusal.{Refusal}
+use Rattle.base.specs.Refusals.{Rule, HoldsBelow, AllHold, no_rule, one_more, FirstFault, here, further, Answer, Accepted, Refused, answer_of, first_bad, refusal, whole}
 use Rattle.base.proofs.BoolLaws.{not_both}
 
 -- ------------------------------------------------------------------------------------------------
@@ -20,8 +20,8 @@ use Rattle.base.proofs.BoolLaws.{not_both}
 
 -- what the search over the first n places finds
 data Finds (holds : ℕ → Bool) (n : ℕ) : Option ℕ → Type 0 where
-  nowhere : HoldsBelow holds n → Finds holds n none
-  lowest : {place : ℕ} → place < n → HoldsBelow holds place → holds place ≡ false → Finds holds n (some place)
+  nowhere : HoldsBelow holds n → Finds holds n None
+  lowest : {place : ℕ} → place < n → HoldsBelow holds place → holds place ≡ false → Finds holds n (Some place)
 
 holds_at_last : (holds : ℕ → Bool) (n : ℕ) → HoldsBelow holds n → holds n ≡ true → HoldsBelow holds (suc n)
 holds_at_last holds n below last i h = go (dec_lt i n)
@@ -36,27 +36,27 @@ first_bad-finds holds zero = nowhere (λ i h. absurd (not-suc-le-zero h))
 first_bad-finds holds (suc n) = go (first_bad holds n) (holds n) refl (first_bad-finds holds n)
   where
     go : (o : Option ℕ) (t : Bool) → holds n ≡ t → Finds holds n o
-        → Finds holds (suc n) (elim o [ none ↦ if t then none else some n | some place ↦ some place ])
-    go none true e (nowhere below) = nowhere (holds_at_last holds n below e)
-    go none false e (nowhere below) = lowest {place = n} (omega arith) below e
-    go (some place) t e (lowest inside below fails) = lowest {place = place} (omega arith) below fails
+        → Finds holds (suc n) (elim o [ None ↦ if t then None else Some n | Some place ↦ Some place ])
+    go None true e (nowhere below) = nowhere (holds_at_last holds n below e)
+    go None false e (nowhere below) = lowest {place = n} (omega arith) below e
+    go (Some place) t e (lowest inside below fails) = lowest {place = place} (omega arith) below fails
 
-first_bad-none : (holds : ℕ → Bool) (n : ℕ) → HoldsBelow holds n → first_bad holds n ≡ none
+first_bad-none : (holds : ℕ → Bool) (n : ℕ) → HoldsBelow holds n → first_bad holds n ≡ None
 first_bad-none holds n all = go (first_bad-finds holds n)
   where
-    go : {o : Option ℕ} → Finds holds n o → o ≡ none
+    go : {o : Option ℕ} → Finds holds n o → o ≡ None
     go (nowhere below) = refl
     go (lowest inside below fails) = absurd (not_both (all _ inside) fails)
 
 first_bad-some :
-    (holds : ℕ → Bool) (n place : ℕ) → place < n → HoldsBelow holds place → holds place ≡ false → first_bad holds n ≡ some place
+    (holds : ℕ → Bool) (n place : ℕ) → place < n → HoldsBelow holds place → holds place ≡ false → first_bad holds n ≡ Some place
 first_bad-some holds n place inside below fails = go (first_bad-finds holds n)
   where
-    go : {o : Option ℕ} → Finds holds n o → o ≡ some place
+    go : {o : Option ℕ} → Finds holds n o → o ≡ Some place
     go (nowhere all) = absurd (not_both (all place inside) fails)
     go (lowest {place = other} inside' below' fails') = same (dec_lt place other) (dec_lt other place)
       where
-        same : Dec (place < other) → Dec (other < place) → some other ≡ some place
+        same : Dec (place < other) → Dec (other < place) → Some other ≡ Some place
         same (yes k) d = absurd (not_both (below' place k) fails)
         same (no k) (yes l) = absurd (not_both (below other l) fails')
         same (no k) (no l) = let e : other ≡ place = omega arith in rw e
@@ -67,7 +67,7 @@ first_bad-some holds n place inside below fails = go (first_bad-finds holds n)
 -- an answer that says what is so
 data Fits (rules : List Rule) : Answer → Type 0 where
   accepted : AllHold rules → Fits rules Accepted
-  refused : {code place : ℕ} → FirstFault rules code place → Fits rules (Refused code place)
+  refused : {code : Code} {place : ℕ} → FirstFault rules code place → Fits rules (Refused code place)
 
 refusal_fits : (rules : List Rule) → Fits rules (refusal rules)
 unfolding refusal
@@ -79,7 +79,7 @@ refusal_fits (rule ∷ later) = go (first_bad-finds rule.holds rule.places) (ref
     more all (refused h) = refused (further all h)
 
     go : {o : Option ℕ} → Finds rule.holds rule.places o → Fits later (refusal later)
-        → Fits (rule ∷ later) (elim o [ none ↦ refusal later | some place ↦ Refused rule.code place ])
+        → Fits (rule ∷ later) (elim o [ None ↦ refusal later | Some place ↦ Refused rule.code place ])
     go (nowhere all) h = more all h
     go (lowest inside below fails) h = refused (here inside below fails)
 
@@ -88,7 +88,7 @@ unfolding refusal
 all_hold_accepted no_rule = refl
 all_hold_accepted (one_more {rule = rule} all h) = rw (first_bad-none rule.holds rule.places all, refusal) (all_hold_accepted h)
 
-first_fault_refused : {rules : List Rule} {code place : ℕ} → FirstFault rules code place → refusal rules ≡ Refused code place
+first_fault_refused : {rules : List Rule} {code : Code} {place : ℕ} → FirstFault rules code place → refusal rules ≡ Refused code place
 unfolding refusal
 first_fault_refused (here {rule = rule} {place = place} inside below fails) =
     rw (first_bad-some rule.holds rule.places place inside below fails, refusal)
@@ -100,10 +100,10 @@ accepted_iff rules = ((λ e. go (subst (Fits rules) e (refusal_fits rules))), al
     go : Fits rules Accepted → AllHold rules
     go (accepted h) = h
 
-pub refused_iff : (rules : List Rule) (code place : ℕ) → (refusal rules ≡ Refused code place) ↔ FirstFault rules code place
+pub refused_iff : (rules : List Rule) (code : Code) (place : ℕ) → (refusal rules ≡ Refused code place) ↔ FirstFault rules code place
 refused_iff rules code place = ((λ e. go (subst (Fits rules) e (refusal_fits rules))), first_fault_refused)
   where
-    go : {code place : ℕ} → Fits rules (Refused code place) → FirstFault rules code place
+    go : {code : Code} {place : ℕ} → Fits rules (Refused code place) → FirstFault rules code place
     go (refused h) = h
 
 -- ------------------------------------------------------------------------------------------------
@@ -120,7 +120,7 @@ one_rule_accepted rule all = all_hold_accepted (one_more all no_rule)
 pub no_rules : refusal [] ≡ Accepted
 no_rules = all_hold_accepted no_rule
 
-pub whole_fails : (code : ℕ) (test : Bool) (later : List Rule) → test ≡ false → refusal (whole code test ∷ later) ≡ Refused code 0
+pub whole_fails : (code : Code) (test : Bool) (later : List Rule) → test ≡ false → refusal (whole code test ∷ later) ≡ Refused code 0
 whole_fails code test later fails = first_fault_refused (here (omega arith) (λ i h. absurd (not-suc-le-zero h)) fails)
 
 -- after a rule that holds the others answer
@@ -128,17 +128,27 @@ holds_all : (rule : Rule) (later : List Rule) → HoldsBelow rule.holds rule.pla
 unfolding refusal
 holds_all rule later all = rw (first_bad-none rule.holds rule.places all, refusal)
 
-pub whole_holds : (code : ℕ) (test : Bool) (later : List Rule) → test ≡ true → refusal (whole code test ∷ later) ≡ refusal later
+pub whole_holds : (code : Code) (test : Bool) (later : List Rule) → test ≡ true → refusal (whole code test ∷ later) ≡ refusal later
 whole_holds code test later holds = holds_all (whole code test) later (λ i h. holds)
 
 -- ------------------------------------------------------------------------------------------------
 -- At most one answer fits
 
-pub first_fault_unique :
-    {rules : List Rule} {code place code' place' : ℕ} → FirstFault rules code place → FirstFault rules code' place' → (code ≡ code') × (place ≡ place')
-first_fault_unique f g = let p = first_fault_refused f in let q = first_fault_refused g in (cc, cc)
+-- what an answer refuses with, or another refusal where it accepts
+refusal_or : Refusal → Answer → Refusal
+refusal_or other (Ok _) = other
+refusal_or other (Err e) = e
 
-pub all_hold_no_fault : {rules : List Rule} {code place : ℕ} → AllHold rules → FirstFault rules code place → ⊥
+pub refused_apart : {code code' : Code} {place place' : ℕ} → Refused code place ≡ Refused code' place' → (code ≡ code') × (place ≡ place')
+unfolding refusal_or
+refused_apart {code} {code'} {place} e =
+    let same = ap (refusal_or (record { code = code; place = place })) e in (ap (λ (r : Refusal). r.code) same, ap (λ (r : Refusal). r.place) same)
+
+pub first_fault_unique :
+    {rules : List Rule} {code code' : Code} {place place' : ℕ} → FirstFault rules code place → FirstFault rules code' place' → (code ≡ code') × (place ≡ place')
+first_fault_unique f g = refused_apart (sym (first_fault_refused f) ∙ first_fault_refused g)
+
+pub all_hold_no_fault : {rules : List Rule} {code : Code} {place : ℕ} → AllHold rules → FirstFault rules code place → ⊥
 all_hold_no_fault a f =
     let p = all_hold_accepted a in
     let q = first_fault_refused f in
@@ -169,10 +179,10 @@ all_hold_append a b = (split a, λ h. join h.0 h.1)
 -- A list of rules in two parts: the first part's refusal, and where it accepts the second part's answer
 
 pub refusal_first :
-    (a b : List Rule) (code place : ℕ) → refusal a ≡ Refused code place → refusal (a ++ b) ≡ Refused code place
+    (a b : List Rule) (code : Code) (place : ℕ) → refusal a ≡ Refused code place → refusal (a ++ b) ≡ Refused code place
 refusal_first a b code place e = first_fault_refused (on ((refused_iff a code place).0 e))
   where
-    on : {a : List Rule} {code place : ℕ} → FirstFault a code place → FirstFault (a ++ b) code place
+    on : {a : List Rule} {code : Code} {place : ℕ} → FirstFault a code place → FirstFault (a ++ b) code place
     on (here inside below fails) = here inside below fails
     on (further all h) = further all (on h)
 
@@ -185,8 +195,27 @@ refusal_rest a b e = on ((accepted_iff a).0 e)
 
 -- the same for code that asks a part, returns at its refusal, and asks the rest where it accepts
 pub refuses_here :
-    (a b : List Rule) {r : Answer} {code place : ℕ} → r ≡ refusal a → r ≡ Refused code place → Refused code place ≡ refusal (a ++ b)
+    (a b : List Rule) {r : Answer} {code : Code} {place : ℕ} → r ≡ refusal a → r ≡ Refused code place → Refused code place ≡ refusal (a ++ b)
 refuses_here a b is given = sym (refusal_first a b _ _ (sym is ∙ given))
+
+-- an answer is its own
+pub answer_itself : (r : Answer) → r ≡ answer_of r
+answer_itself (Ok _) = refl
+answer_itself (Err y) = refl
+
+-- what `?` hands on of a refusal
+pub hands_on :
+    {X : Type 0} (r : Result X Refusal) {x : Answer} {e : Refusal} → Err e ≡ x → IsErr r × IsErrAnd r (λ y. y ≡ e) → answer_of r ≡ x
+hands_on {X = X} r {x = x} {e = e} is on = go r on.1
+  where
+    go : (r : Result X Refusal) → IsErrAnd r (λ y. y ≡ e) → answer_of r ≡ x
+    go (Ok _) h = absurd h
+    go (Err y) h = ap (λ (z : Refusal). Err z) h ∙ is
+
+-- the same where `?` hands the part's refusal on
+pub refuses_on :
+    (a b : List Rule) {x r : Answer} {e : Refusal} → x ≡ refusal a → x ≡ Err e → IsErr r × IsErrAnd r (λ y. y ≡ e) → r ≡ refusal (a ++ b)
+refuses_on a b {r = r} is given on = answer_itself r ∙ hands_on r (refuses_here a b is given) on
 
 pub answers_next : (a b : List Rule) {r x : Answer} → r ≡ refusal a → r ≡ Accepted → x ≡ refusal b → x ≡ refusal (a ++ b)
 answers_next a b is given next = next ∙ sym (refusal_rest a b (sym is ∙ given))

@@ -3,27 +3,29 @@
 
 pub mod codes;
 
-ghost use Rattle.std.specs.Prelude.{◌≡◌, [], ◌∷◌};
+ghost use Rattle.std.specs.Prelude.{◌≡◌, ℕ, [], ◌∷◌, ◌<◌};
 ghost use Rattle.base.specs.Choice as Choice;
-ghost use Rattle.base.specs.declared.Answer.TheVariants.{Refused};
-ghost use Rattle.base.specs.Refusals.{Rule, refusal, code_of, place_of};
+ghost use Rattle.base.specs.Refusals.{Rule, Refused, Searched, refusal, code_of, place_of};
 
-// The answer of a check.
-#[derive(Clone, Copy)]
-pub enum Answer {
-    // Nothing was found.
-    Accepted,
-    // The number of the rule that is broken, and the place where.
-    Refused(u32, u32),
+use codes::Code;
+
+// What a check refuses with: the code of the rule that is broken, and the lowest place where.
+#[derive(Clone, Copy, Debug, PartialEq, Eq)]
+pub struct Refusal {
+    pub code: Code,
+    pub place: u32,
 }
+
+// The answer of a check: nothing was found, or a refusal.
+pub type Answer = Result<(), Refusal>;
 
 // The answer's code, 0 where it accepts.
 pub fn code_of(a: Answer) -> u32
     ensures { result ≡ code_of a }
 {
     match a {
-        Answer::Accepted => 0,
-        Answer::Refused(code, _) => code,
+        Ok(()) => 0,
+        Err(refusal) => refusal.code.number(),
     }
 }
 
@@ -32,19 +34,30 @@ pub fn place_of(a: Answer) -> u32
     ensures { result ≡ place_of a }
 {
     match a {
-        Answer::Accepted => 0,
-        Answer::Refused(_, place) => place,
+        Ok(()) => 0,
+        Err(refusal) => refusal.place,
     }
 }
 
 // The answer of two rules of which the second is broken at a place: the first rule's refusal, and where it accepts that of the second.
-pub fn or_refused(first: Answer, code: u32, place: u32) -> Answer
+pub fn or_refused(first: Answer, code: Code, place: u32) -> Answer
     ensures { (a b : Rule) → first ≡ refusal (a ∷ []) → Refused code place ≡ refusal (b ∷ []) → result ≡ refusal (a ∷ b ∷ []) }
 {
-    match first {
-        Answer::Accepted => Answer::Refused(code, place),
-        Answer::Refused(earlier, at) => Answer::Refused(earlier, at),
+    first?;
+    Err(Refusal { code, place })
+}
+
+// The answer of a rule that looks at so many places, in their order: it is broken at the lowest one that doesn't hold.
+pub fn first_fault<F: Fn(u32) -> bool>(code: Code, places: u32, holds: F) -> Answer
+    requires { (i : ℕ) → i < places → F.pre holds i }
+    ensures { Searched (F.post holds) code places result }
+{
+    for i in 0..places {
+        if !holds(i) {
+            return Err(Refusal { code, place: i });
+        }
     }
+    Ok(())
 }
 
 // Whether n is from least to most.

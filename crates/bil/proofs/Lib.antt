@@ -1,3 +1,2 @@
 pub mod RunCallLaws
-pub mod TestLaws
 pub mod Unique

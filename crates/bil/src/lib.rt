@@ -15,44 +15,29 @@ use base::{code_of, place_of, within};
 use runner::entry::run;
 use runner::numbers;
 use verdict::{check, seal_check};
-use word::Computed;
 
 // Whether there is such a sub and such a width, and both words fit it.
 fn good(sub: u32, width: u32, a: u64, b: u64) -> bool
     ensures { result ≡ WordCalls.good sub width a b }
 {
-    if !within(word::subs::PLUS, word::subs::SLE, sub) {
-        return false;
-    }
-    if !within(1, 64, width) {
-        return false;
-    }
-    if !word::width::fits(width, a) {
-        return false;
-    }
-    word::width::fits(width, b)
+    within(word::subs::PLUS, word::subs::SLE, sub)
+        && within(1, 64, width)
+        && word::width::fits(width, a)
+        && word::width::fits(width, b)
 }
 
-// The answer to a call of a binary operation.
-#[derive(Clone, Copy)]
-pub enum WordCall {
-    // A bad sub, width or word.
-    Bad,
-    Word(u64),
-    Unknown,
-}
+// A bad sub, width or word in a call of a binary operation.
+#[derive(Clone, Copy, PartialEq, Eq, Debug)]
+pub struct BadCall;
 
-// What a binary operation gives for any numbers.
-fn word_call(sub: u32, width: u32, a: u64, b: u64) -> WordCall
+// What a binary operation gives for any numbers: a word, or None where it is unknown.
+fn word_call(sub: u32, width: u32, a: u64, b: u64) -> Result<Option<u64>, BadCall>
     ensures { result ≡ WordCalls.call sub width a b }
 {
     if good(sub, width, a, b) {
-        match word::binary(sub, width, a, b) {
-            Computed::Word(r) => WordCall::Word(r),
-            Computed::Unknown => WordCall::Unknown,
-        }
+        Ok(word::binary(sub, width, a, b))
     } else {
-        WordCall::Bad
+        Err(BadCall)
     }
 }
 
@@ -61,9 +46,9 @@ pub fn bil_word_kind(sub: u32, width: u32, a: u64, b: u64) -> u32
     ensures { result ≡ WordCalls.kind (WordCalls.call sub width a b) }
 {
     match word_call(sub, width, a, b) {
-        WordCall::Bad => 0,
-        WordCall::Word(_) => 1,
-        WordCall::Unknown => 2,
+        Err(BadCall) => 0,
+        Ok(Some(_)) => 1,
+        Ok(None) => 2,
     }
 }
 
@@ -72,9 +57,9 @@ pub fn bil_word_value(sub: u32, width: u32, a: u64, b: u64) -> u64
     ensures { result ≡ WordCalls.value (WordCalls.call sub width a b) }
 {
     match word_call(sub, width, a, b) {
-        WordCall::Bad => 0,
-        WordCall::Word(r) => r,
-        WordCall::Unknown => 0,
+        Err(BadCall) => 0,
+        Ok(Some(r)) => r,
+        Ok(None) => 0,
     }
 }
 

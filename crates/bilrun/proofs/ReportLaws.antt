@@ -1,30 +1,22 @@
 -- The parts of the text, from what the calls promise. Assumes nothing.
-use mathlib.Core.Path.{◌≡◌, refl, sym, ap, ap₂, subst, ◌∙◌}
-use mathlib.Core.List.{List, [], ◌∷◌, ◌++◌, append-nil}
-use Prim.Native.Nat.{ℕ, zero, suc, ◌*◌, ◌≤◌}
-use native.Mathlib.Omega.{arith}
-use lib.ListN.{take, replicate}
-use Rattle.base.specs.declared.Answer.{Answer}
-use Rattle.base.specs.declared.Answer.TheVariants.{Accepted, Refused}
+use Rattle.std.proofs.Common.{◌≡◌, sym, ap, ap₂, subst, ◌∙◌, List, [], ◌++◌, append-nil, ℕ, ◌*◌, replicate, Ok, Err}
+use Rattle.base.specs.Refusals.{Accepted, Answer}
+use Rattle.base.specs.declared.Refusal.{Refusal}
 use Rattle.base.specs.Refusals as Refusals
 use Rattle.table.specs.declared.Header.{Header}
 use Rattle.table.specs.Bytes.{header}
 use Rattle.typing.specs.Verdict.{check}
 use Rattle.sealing.specs.Verdict.{seal_check}
+use Rattle.memory.specs.Log.{entry_size}
 use Rattle.running.specs.Result.{Result, result, code_of, place_of}
 use Rattle.starts.specs.Lent.{lent}
 use Rattle.runner.specs.declared.Outcome.{Outcome}
 use Rattle.runner.specs.Given.{Gives}
 use Rattle.report.specs.Lines.{answer_line, run_line, variable_lines, verdict_word, seal_word}
-use Rattle.bilrun.specs.Report.{started, ran, accepted, report}
-
-pub take_replicate : (k n : ℕ) → k ≤ n → take {A = ℕ} k (replicate n 0) ≡ replicate k 0
-take_replicate zero n h = refl
-take_replicate (suc k) zero h = absurd (omega arith)
-take_replicate (suc k) (suc n) h = ap (λ (l : List ℕ). 0 ∷ l) (take_replicate k n (omega arith))
+use Rattle.bilrun.specs.Report.{entries, started, ran, accepted, report}
 
 -- the start of bilrun is what is lent
-pub gives_started : (s σ m : List ℕ) {σ₁ m₁ : List ℕ} {h : Header} {o : Outcome} → h ≡ header s → σ ≡ replicate (2 * h.variables) 0 → m ≡ replicate 8192 0
+pub gives_started : (s σ m : List ℕ) {σ₁ m₁ : List ℕ} {h : Header} {o : Outcome} → h ≡ header s → σ ≡ replicate (2 * h.variables) 0 → m ≡ replicate (entry_size * entries) 0
     → Gives (result (lent s σ m 0 0 10000)) o σ₁ m₁ → Gives (result (started s)) o σ₁ m₁
 unfolding started
 gives_started s σ m {σ₁} {m₁} {h} {o} framed state log g =
@@ -58,10 +50,10 @@ pub report_accepted : (s : List ℕ) {line : List ℕ} → line ≡ answer_line 
     → line ++ accepted s ≡ report s
 unfolding report
 report_accepted s e h =
-    ap₂ (λ (l : List ℕ) (a : Answer). l ++ elim a [ Accepted ↦ accepted s | Refused code place ↦ [] ]) e (sym h)
+    ap₂ (λ (l : List ℕ) (a : Answer). l ++ elim a [ Ok _ ↦ accepted s | Err _ ↦ [] ]) e (sym h)
 
-pub report_refused : (s : List ℕ) {line : List ℕ} {code place : ℕ} → line ≡ answer_line verdict_word (Refusals.code_of (check s)) (Refusals.place_of (check s))
-    → check s ≡ Refused code place → line ≡ report s
+pub report_refused : (s : List ℕ) {line : List ℕ} {e : Refusal} → line ≡ answer_line verdict_word (Refusals.code_of (check s)) (Refusals.place_of (check s))
+    → check s ≡ Err e → line ≡ report s
 unfolding report
 report_refused s {line} e h =
-    sym (append-nil line) ∙ ap₂ (λ (l : List ℕ) (a : Answer). l ++ elim a [ Accepted ↦ accepted s | Refused code place ↦ [] ]) e (sym h)
+    sym (append-nil line) ∙ ap₂ (λ (l : List ℕ) (a : Answer). l ++ elim a [ Ok _ ↦ accepted s | Err _ ↦ [] ]) e (sym h)

@@ -1,14 +1,14 @@
 -- What `bilrun` prints for a table's bytes. Assumes nothing.
-use Rattle.std.specs.Prelude.{List, [], ◌++◌, ℕ, ◌*◌, replicate}
-use Rattle.base.specs.declared.Answer.TheVariants.{Accepted, Refused}
+use Rattle.std.specs.Prelude.{List, [], ◌++◌, ℕ, ◌+◌, ◌*◌, replicate, Ok, Err}
 use Rattle.base.specs.Refusals as Refusals
 use Rattle.table.specs.Bytes.{header}
+use Rattle.table.specs.Records.{most_variables}
 use Rattle.typing.specs.Verdict.{check}
 use Rattle.sealing.specs.Verdict.{seal_check}
 use Rattle.memory.specs.Log.{entry_size}
 use Rattle.running.specs.Start.{Start}
 use Rattle.running.specs.Result.{Result, result, code_of, place_of}
-use Rattle.report.specs.Lines.{answer_line, run_line, variable_lines, verdict_word, seal_word}
+use Rattle.report.specs.Lines.{answer_line, run_line, variable_lines, verdict_word, seal_word, longest_answer, longest_run, longest_variable}
 
 -- "an empty log of 2,048 entries"
 abbrev pub entries : ℕ
@@ -17,6 +17,16 @@ entries = 2048
 -- "budget 10,000"
 abbrev pub budget : ℕ
 budget = 10000
+
+-- how long the text is at most: of a run, of an accepted table, and the whole
+abbrev pub longest_ran : ℕ
+longest_ran = longest_run + longest_variable * most_variables
+
+abbrev pub longest_accepted : ℕ
+longest_accepted = longest_answer + longest_ran
+
+abbrev pub longest_report : ℕ
+longest_report = longest_answer + longest_accepted
 
 -- "starts with all absent, an empty log .., next address 0"
 unfoldable pub started : List ℕ → Start
@@ -47,4 +57,4 @@ unfoldable pub report : List ℕ → List ℕ
 unfolding answer_line check accepted
 report s =
     answer_line verdict_word (Refusals.code_of (check s)) (Refusals.place_of (check s))
-    ++ elim (check s) [ Accepted ↦ accepted s | Refused code place ↦ [] ]
+    ++ elim (check s) [ Ok accepted_table ↦ accepted s | Err refused ↦ [] ]

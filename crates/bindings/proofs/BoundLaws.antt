@@ -17,15 +17,14 @@ use Rattle.value.specs.Values.{size, type_of}
 use Rattle.evaluation.specs.State.{number_of}
 use Rattle.evaluation.specs.Evaluation.{Binding, most_bindings, look}
 use Rattle.bindings.specs.declared.Bindings.{Bindings}
-use Rattle.bindings.specs.declared.Found.{Found}
-use Rattle.bindings.specs.declared.Found.TheVariants.{Bound, Free}
+use Rattle.std.specs.Prelude.{Option, None, Some}
 use Rattle.bindings.specs.Bound.{Whole, value_held, kind_held, binding_at, first_bindings, bindings_of, none, more, found}
 
 -- ------------------------------------------------------------------------------------------------
 -- The search
 
 here : (b : Bindings) (x i : ℕ) → 0 < i → get_or b.variables (i - 1) 0 ≡ x
-    → found (first_bindings b i) x ≡ Bound (value_held (get_or b.kinds (i - 1) 0) (get_or b.widths (i - 1) 0) (get_or b.numbers (i - 1) 0))
+    → found (first_bindings b i) x ≡ Some (value_held (get_or b.kinds (i - 1) 0) (get_or b.widths (i - 1) 0) (get_or b.numbers (i - 1) 0))
 unfolding found first_bindings binding_at
 here b x zero p h = absurd (omega arith)
 here b x (suc n) p h = let g : get_or b.variables n 0 ≡ x = rw (sub-one (suc n)) at h in rw (sub-one (suc n), eq-eqb (get_or b.variables n 0) x g, found)
@@ -36,7 +35,7 @@ further b x zero p h = absurd (omega arith)
 further b x (suc n) p h =
     let g : get_or b.variables n 0 ≡ x → ⊥ = rw (sub-one (suc n)) at h in rw (sub-one (suc n), ne_eqb (get_or b.variables n 0) x g, found)
 
-nowhere : (b : Bindings) (x i : ℕ) → i ≤ 0 → found (first_bindings b i) x ≡ Free
+nowhere : (b : Bindings) (x i : ℕ) → i ≤ 0 → found (first_bindings b i) x ≡ None
 unfolding found first_bindings
 nowhere b x zero p = refl
 nowhere b x (suc n) p = absurd (omega arith)
@@ -52,13 +51,13 @@ search_starts b x h = record { least = h; same = refl }
 
 module _ (b : Bindings) (x : ℕ) {i : ℕ} (s : Searching b x i) where
   pub search_ends : 0 < i → get_or b.variables (i - 1) 0 ≡ x
-      → Bound (value_held (get_or b.kinds (i - 1) 0) (get_or b.widths (i - 1) 0) (get_or b.numbers (i - 1) 0)) ≡ found (bindings_of b) x
+      → Some (value_held (get_or b.kinds (i - 1) 0) (get_or b.widths (i - 1) 0) (get_or b.numbers (i - 1) 0)) ≡ found (bindings_of b) x
   search_ends p h = sym (s.same ∙ here b x i p h)
 
   pub search_on : 0 < i → (get_or b.variables (i - 1) 0 ≡ x → ⊥) → Searching b x (i - 1)
   search_on p h = let l = s.least in record { least = omega arith; same = s.same ∙ further b x i p h }
 
-  pub search_fails : i ≤ 0 → Free ≡ found (bindings_of b) x
+  pub search_fails : i ≤ 0 → None ≡ found (bindings_of b) x
   search_fails p = sym (s.same ∙ nowhere b x i p)
 
 -- ------------------------------------------------------------------------------------------------
@@ -143,16 +142,16 @@ length-bindings b = go b.count
     go (suc n) = ap suc (go n)
 
 -- what a variable is bound to, else what the state has
-abbrev pub value_in : Value → Found → Value
-value_in other (Bound v) = v
-value_in other Free = other
+abbrev pub value_in : Value → Option Value → Value
+value_in other (Some v) = v
+value_in other None = other
 
 pub look_found : (ρ : List Binding) (other : Value) (x : ℕ) → look ρ other x ≡ value_in other (found ρ x)
 unfolding look found
 look_found [] other x = refl
 look_found (b ∷ ρ) other x = go (found ρ x) (eqb b.variable x) (look_found ρ other x)
   where
-    go : {v : Value} (f : Found) (t : Bool) → v ≡ value_in other f
-        → elim t [ true ↦ b.bound | false ↦ v ] ≡ value_in other (elim t [ true ↦ Bound b.bound | false ↦ f ])
+    go : {v : Value} (f : Option Value) (t : Bool) → v ≡ value_in other f
+        → elim t [ true ↦ b.bound | false ↦ v ] ≡ value_in other (elim t [ true ↦ Some b.bound | false ↦ f ])
     go f true e = refl
     go f false e = e

@@ -1,5 +1,5 @@
 -- The list of bindings that the struct stands for. Assumes nothing.
-use Rattle.std.specs.Prelude.{◌≡◌, true, false, List, [], ◌∷◌, ℕ, zero, suc, ◌+◌, ◌≤◌, eqb, length, get_or, set, replicate}
+use Rattle.std.specs.Prelude.{◌≡◌, true, false, List, [], ◌∷◌, ℕ, zero, suc, ◌+◌, ◌≤◌, eqb, length, get_or, set, replicate, Option, None, Some}
 use Rattle.base.specs.Numbered.{numbered}
 use Rattle.value.specs.declared.ValueType.TheVariants.{Imm, Mem}
 use Rattle.value.specs.declared.Value.{Value}
@@ -8,8 +8,6 @@ use Rattle.value.specs.Values.{size, type_of}
 use Rattle.evaluation.specs.State.{number_of}
 use Rattle.evaluation.specs.Evaluation.{Binding, most_bindings}
 use Rattle.bindings.specs.declared.Bindings.{Bindings}
-use Rattle.bindings.specs.declared.Found.{Found}
-use Rattle.bindings.specs.declared.Found.TheVariants.{Bound, Free}
 
 -- arrays of 64, and no more bindings than that
 pub record Whole (b : Bindings) : Type 0 where
@@ -67,6 +65,6 @@ more b x v = record {
 }
 
 -- the value of a variable's innermost binding
-unfoldable pub found : List Binding → ℕ → Found
-found [] x = Free
-found (b ∷ outer) x = elim (eqb b.variable x) [ true ↦ Bound b.bound | false ↦ found outer x ]
+unfoldable pub found : List Binding → ℕ → Option Value
+found [] x = None
+found (b ∷ outer) x = elim (eqb b.variable x) [ true ↦ Some b.bound | false ↦ found outer x ]

@@ -9,7 +9,8 @@ ghost use Rattle.bindings.specs.Bound.{value_held, kind_held, found, bindings_of
 use states::number_of;
 use value::{Value, ValueType};
 
-// The first `count` places are in use, the outermost binding first: a variable's number, and its value's kind, width and number.
+// The first `count` places are in use, the outermost binding first: a variable's number, and its value's kind, width and number. One array of
+// structs was tried: a binding takes 24 bytes then, and the deepest table 331,920 bytes of stack, where bil.h says 256 KiB.
 #[derive(Clone, Copy)]
 pub struct Bindings {
     pub variables: [u8; 64],
@@ -19,16 +20,7 @@ pub struct Bindings {
     pub count: usize,
 }
 
-// What is found for a variable.
-#[derive(Clone, Copy)]
-pub enum Found {
-    // The value of the innermost binding of a variable.
-    Bound(Value),
-    // No binding of it is in force.
-    Free,
-}
-
-// The kinds of values.
+// The kinds of values. They are numbers of a byte: with an enum of kind and width a binding takes more than 11 bytes.
 pub const WORD: u8 = 1;
 
 pub const UNKNOWN_WORD: u8 = 2;
@@ -94,18 +86,16 @@ impl Bindings {
         self
     }
 
-    // The value of a variable's innermost binding, or that it is free.
-    pub fn find(self, x: u32) -> Found
-        requires { self.count ≤ most_bindings }
-        ensures { result ≡ found (bindings_of self) x }
+    // The value of a variable's innermost binding, if one is in force.
+    pub fn find(&self, x: u32) -> Option<Value>
+        requires { self.now.count ≤ most_bindings }
+        ensures { result ≡ found (bindings_of self.now) x }
     {
-        let mut i = self.count;
-        while 0 < i {
-            i -= 1;
+        for i in (0..self.count).rev() {
             if self.variables[i] as u32 == x {
-                return Found::Bound(value_of(self.kinds[i], self.widths[i], self.numbers[i]));
+                return Some(value_of(self.kinds[i], self.widths[i], self.numbers[i]));
             }
         }
-        Found::Free
+        None
     }
 }

@@ -1,3 +1,4 @@
 pub mod OwnerLaws
+pub mod PassLaws
 pub mod StatementLaws
 pub mod Unique

@@ -1,1 +1,2 @@
 pub mod Owners
+pub mod Room

@@ -4,4 +4,5 @@
 #![tactic(auto)]
 
 pub mod bodies;
+pub mod room;
 pub mod statements;

@@ -6,6 +6,7 @@ use Prim.Native.Nat.{ℕ, zero, suc, ◌≤◌}
 use native.Mathlib.Omega.{arith}
 use lib.ListN.{length}
 use Rattle.base.proofs.BoolLaws.{impossible}
+use Rattle.base.specs.declared.codes.Stop.{Stop}
 use Rattle.value.specs.declared.Value.{Value}
 use Rattle.table.specs.Decode.{Context, context, program}
 use Rattle.table.specs.Syntax as S
@@ -29,7 +30,7 @@ record Alike (x y : Left) : Type 0 where
 abbrev IfDone : Left → Left → Type 0
 IfDone x y = x.ending ≡ Done → Alike x y
 
-not_done : {x y : Left} {code n : ℕ} → x.ending ≡ Stopped code n → IfDone x y
+not_done : {x y : Left} {code : Stop} {n : ℕ} → x.ending ≡ Stopped code n → IfDone x y
 not_done stops e = impossible (cc)
 
 -- a statement after its evaluation

@@ -7,12 +7,14 @@ use Prim.Native.Nat.{ℕ, zero, suc, ◌<◌}
 use native.Mathlib.Omega.{arith}
 use lib.Dec.{eqb}
 use lib.ListN.{set}
-use Rattle.base.specs.declared.Answer.{Answer}
-use Rattle.base.specs.declared.Answer.TheVariants.{Accepted, Refused}
-use Rattle.std.specs.Prelude.{if◌then◌else◌}
-use Rattle.base.specs.Refusals.{refusal}
+use Rattle.std.specs.Prelude.{if◌then◌else◌, Err}
+use Rattle.base.specs.declared.codes.Code.{Code}
+use Rattle.base.specs.declared.codes.Code.TheVariants as Codes
+use Rattle.base.specs.declared.codes.Stop.TheVariants as Stops
+use Rattle.base.specs.declared.Refusal.{Refusal}
+use Rattle.base.specs.Refusals.{Accepted, Refused, Answer, refusal}
 use Rattle.base.proofs.BoolLaws.{impossible}
-use Rattle.base.proofs.RefusalLaws.{refused_iff}
+use Rattle.base.proofs.RefusalLaws.{refused_iff, refused_apart}
 use Rattle.table.specs.Decode.{context}
 use Rattle.table.proofs.Assembler.{assembled, immediate, memory, sealed, var, move, special}
 use Rattle.typing.specs.Verdict.{check_rules, check}
@@ -68,15 +70,25 @@ clean : seal_check table ≡ Accepted
 unfolding seal_check table
 clean = refl
 
-bad : check [] ≡ Refused 1 0
+-- what it is refused with, and the same code at a wrong place
+abbrev first : Refusal
+first = record { code = Codes.TooShort; place = 0 }
+
+abbrev second : Refusal
+second = record { code = Codes.TooShort; place = 1 }
+
+bad : check [] ≡ Refused Codes.TooShort 0
 unfolding check
 bad = refl
 
-answers_apart : {a : Answer} → a ≡ Accepted → a ≡ Refused 18 1 → ⊥
+answers_apart : {a : Answer} → a ≡ Accepted → a ≡ Refused Codes.Pair 1 → ⊥
 answers_apart p q = impossible (cc)
 
-code_apart : Refused 1 0 ≡ Refused 4 0 → ⊥
-code_apart e = let same : ◌≡◌ {A = ℕ} 1 4 = cc in absurd (omega arith)
+place_apart : Refused Codes.TooShort 0 ≡ Refused Codes.TooShort 1 → ⊥
+place_apart e = absurd (omega ((refused_apart e).1, arith))
+
+code_apart : Refused Codes.TooShort 0 ≡ Refused Codes.Length 0 → ⊥
+code_apart e = let same : Codes.TooShort ≡ Codes.Length = (refused_apart e).0 in impossible (cc)
 
 -- two starts that differ in what is sealed alone, at any budget
 agreeing : (budget : ℕ) → Agreeing (start 3 budget) (start 9 budget)
@@ -121,79 +133,79 @@ no_result d = (d.runs none).1
 
 -- what it says of functions: a refusal is the rules' own, and the rules' refusal is given
 module _ (f g : List ℕ → Answer) (run : Start → Result) (d : Demand1 (of_functions f g run)) where
-  named : (s : List ℕ) (code place : ℕ) → f s ≡ Refused code place → check s ≡ Refused code place
+  named : (s : List ℕ) (code : Code) (place : ℕ) → f s ≡ Refused code place → check s ≡ Refused code place
   unfolding check
   named s code place e = (refused_iff (check_rules s) code place).1 ((d.check s (f s) refl code place).0 e)
 
-  met : (s : List ℕ) (code place : ℕ) → check s ≡ Refused code place → f s ≡ Refused code place
+  met : (s : List ℕ) (code : Code) (place : ℕ) → check s ≡ Refused code place → f s ≡ Refused code place
   unfolding check
   met s code place e = (d.check s (f s) refl code place).1 ((refused_iff (check_rules s) code place).0 e)
 
-  seal_named : (s : List ℕ) (code place : ℕ) → g s ≡ Refused code place → seal_check s ≡ Refused code place
+  seal_named : (s : List ℕ) (code : Code) (place : ℕ) → g s ≡ Refused code place → seal_check s ≡ Refused code place
   unfolding seal_check
   seal_named s code place e = (refused_iff (check_rules s ++ seal_rules s) code place).1 ((d.seal s (g s) refl code place).0 e)
 
-  seal_met : (s : List ℕ) (code place : ℕ) → seal_check s ≡ Refused code place → g s ≡ Refused code place
+  seal_met : (s : List ℕ) (code : Code) (place : ℕ) → seal_check s ≡ Refused code place → g s ≡ Refused code place
   unfolding seal_check
   seal_met s code place e = (d.seal s (g s) refl code place).1 ((refused_iff (check_rules s ++ seal_rules s) code place).0 e)
 
-  run_named : (s : Start) (code place : ℕ) → (run s).ending ≡ Endings.Refused code place → refusal (run_rules s) ≡ Refused code place
-  run_named s code place e = (refused_iff (run_rules s) code place).1 ((d.run s (run s) refl code place).0 e)
+  run_named : (s : Start) (e : Refusal) → (run s).ending ≡ Endings.Refused e → refusal (run_rules s) ≡ Err e
+  run_named s e is = (refused_iff (run_rules s) e.code e.place).1 ((d.run s (run s) refl e).0 is)
 
-  run_met : (s : Start) (code place : ℕ) → refusal (run_rules s) ≡ Refused code place → (run s).ending ≡ Endings.Refused code place
-  run_met s code place e = (d.run s (run s) refl code place).1 ((refused_iff (run_rules s) code place).0 e)
+  run_met : (s : Start) (e : Refusal) → refusal (run_rules s) ≡ Err e → (run s).ending ≡ Endings.Refused e
+  run_met s e is = (d.run s (run s) refl e).1 ((refused_iff (run_rules s) e.code e.place).0 is)
 
-  left_alone : (s : Start) (code place : ℕ) → (run s).ending ≡ Endings.Refused code place → run s ≡ refused s code place
-  left_alone s code place = d.unchanged s (run s) refl code place
+  left_alone : (s : Start) (e : Refusal) → (run s).ending ≡ Endings.Refused e → run s ≡ refused s e
+  left_alone s e = d.unchanged s (run s) refl e
 
 -- "with its place": the right code with a wrong place
 pub wrong_place : Demand1 (of_functions (λ s. misplaced (check s)) seal_check result) → ⊥
 unfolding misplaced check
-wrong_place d = let there : check [] ≡ Refused 1 1 = named _ _ _ d [] 1 1 refl in impossible (cc)
+wrong_place d = place_apart (sym bad ∙ named _ _ _ d [] Codes.TooShort 1 refl)
 
 pub wrong_seal_place : Demand1 (of_functions check (λ s. misplaced (seal_check s)) result) → ⊥
 unfolding misplaced seal_check
-wrong_seal_place d = let there : seal_check [] ≡ Refused 1 1 = seal_named _ _ _ d [] 1 1 refl in impossible (cc)
+wrong_seal_place d = let here : seal_check [] ≡ Refused Codes.TooShort 0 = refl in place_apart (sym here ∙ seal_named _ _ _ d [] Codes.TooShort 1 refl)
 
-pub wrong_run_place : Demand1 (of_functions check seal_check (λ s. at_refusal (with_ending (Endings.Refused 1 1)) (result s))) → ⊥
+pub wrong_run_place : Demand1 (of_functions check seal_check (λ s. at_refusal (with_ending (Endings.Refused second)) (result s))) → ⊥
 unfolding at_refusal with_ending result none run_rules
-wrong_run_place d = let there : refusal (run_rules none) ≡ Refused 1 1 = run_named _ _ _ d none 1 1 refl in impossible (cc)
+wrong_run_place d = let here : refusal (run_rules none) ≡ Err first = refl in place_apart (sym here ∙ run_named _ _ _ d none second refl)
 
 -- "the first refusal in document 01's order": a later fault named first. A table of no bytes has no format either.
 pub later_fault : Demand1 (of_functions (λ s. last_first (check_rules s)) seal_check result) → ⊥
 unfolding last_first check_rules check
-later_fault d = let there : check [] ≡ Refused 4 0 = named _ _ _ d [] 4 0 refl in absurd (code_apart (sym bad ∙ there))
+later_fault d = let there : check [] ≡ Refused Codes.Length 0 = named _ _ _ d [] Codes.Length 0 refl in absurd (code_apart (sym bad ∙ there))
 
 -- "A faulty one is answered by .. refusal": a fault that is accepted
 pub fault_accepted : Demand1 (of_functions accepting seal_check result) → ⊥
 unfolding accepting check
-fault_accepted d = let there : accepting [] ≡ Refused 1 0 = met _ _ _ d [] 1 0 refl in impossible (cc)
+fault_accepted d = let there : accepting [] ≡ Refused Codes.TooShort 0 = met _ _ _ d [] Codes.TooShort 0 refl in impossible (cc)
 
 pub seal_fault_accepted : Demand1 (of_functions check accepting result) → ⊥
 unfolding accepting seal_check
-seal_fault_accepted d = let there : accepting [] ≡ Refused 1 0 = seal_met _ _ _ d [] 1 0 refl in impossible (cc)
+seal_fault_accepted d = let there : accepting [] ≡ Refused Codes.TooShort 0 = seal_met _ _ _ d [] Codes.TooShort 0 refl in impossible (cc)
 
 pub start_accepted : Demand1 (of_functions check seal_check (λ s. at_refusal (with_ending Endings.Done) (result s))) → ⊥
 unfolding at_refusal with_ending result none run_rules
-start_accepted d = let there : Endings.Done ≡ Endings.Refused 1 0 = run_met _ _ _ d none 1 0 refl in impossible (cc)
+start_accepted d = let there : Endings.Done ≡ Endings.Refused first = run_met _ _ _ d none first refl in impossible (cc)
 
 -- and no other: a good table refused
 pub good_refused : Demand1 (of_functions refusing_all seal_check result) → ⊥
 unfolding refusing_all
-good_refused d = let there : check table ≡ Refused 1 0 = named _ _ _ d table 1 0 refl in let here = good in impossible (cc)
+good_refused d = let there : check table ≡ Refused Codes.TooShort 0 = named _ _ _ d table Codes.TooShort 0 refl in let here = good in impossible (cc)
 
 -- "and the buffers stay unchanged": a refusal that writes the state, the log or the next address
 pub state_written : Demand1 (of_functions check seal_check (λ s. at_refusal (with_state []) (result s))) → ⊥
 unfolding at_refusal with_state result none refused
-state_written d = let same : ◌≡◌ {A = List ℕ} [] (0 ∷ 0 ∷ []) = ap (λ (r : Result). r.state) (left_alone _ _ _ d none 1 0 refl) in impossible (cc)
+state_written d = let same : ◌≡◌ {A = List ℕ} [] (0 ∷ 0 ∷ []) = ap (λ (r : Result). r.state) (left_alone _ _ _ d none first refl) in impossible (cc)
 
 pub log_written : Demand1 (of_functions check seal_check (λ s. at_refusal (with_log []) (result s))) → ⊥
 unfolding at_refusal with_log result none refused
-log_written d = let same : ◌≡◌ {A = List ℕ} [] (0 ∷ 0 ∷ 0 ∷ 0 ∷ []) = ap (λ (r : Result). r.log) (left_alone _ _ _ d none 1 0 refl) in impossible (cc)
+log_written d = let same : ◌≡◌ {A = List ℕ} [] (0 ∷ 0 ∷ 0 ∷ 0 ∷ []) = ap (λ (r : Result). r.log) (left_alone _ _ _ d none first refl) in impossible (cc)
 
 pub next_written : Demand1 (of_functions check seal_check (λ s. at_refusal (with_next 0) (result s))) → ⊥
 unfolding at_refusal with_next result none refused
-next_written d = let same : ◌≡◌ {A = ℕ} 0 5 = ap (λ (r : Result). r.next) (left_alone _ _ _ d none 1 0 refl) in absurd (omega arith)
+next_written d = let same : ◌≡◌ {A = ℕ} 0 5 = ap (λ (r : Result). r.next) (left_alone _ _ _ d none first refl) in absurd (omega arith)
 
 -- ------------------------------------------------------------------------------------------------
 -- Demand 2. The five idle programs: IdleLaws.
@@ -266,17 +278,17 @@ told tell d = d (start 3 9) (start 9 9) _ _ (sym clean) (agreeing 9) refl refl
 apart : ◌≡◌ {A = ℕ} 3 9 → ⊥
 apart e = absurd (omega arith)
 
-pub through_answer : Demand3 (of_functions check seal_check (telling (λ n. with_ending (Endings.Stopped n 0)))) → ⊥
+pub through_answer : Demand3 (of_functions check seal_check (telling (λ n. with_ending (Endings.Stopped (if eqb n 3 then Stops.GuardUnknown else Stops.JumpUnknown) 0)))) → ⊥
 unfolding with_ending
 through_answer d = let same = (told _ d).ending in apart (cc)
 
 -- done or stopped
 pub through_done :
-    Demand3 (of_functions check seal_check (telling (λ n. with_ending (if eqb n 3 then Endings.Done else Endings.Stopped 32 0)))) → ⊥
+    Demand3 (of_functions check seal_check (telling (λ n. with_ending (if eqb n 3 then Endings.Done else Endings.Stopped Stops.GuardUnknown 0)))) → ⊥
 unfolding with_ending
-through_done d = let same : Endings.Done ≡ Endings.Stopped 32 0 = (told _ d).ending in impossible (cc)
+through_done d = let same : Endings.Done ≡ Endings.Stopped Stops.GuardUnknown 0 = (told _ d).ending in impossible (cc)
 
-pub through_place : Demand3 (of_functions check seal_check (telling (λ n. with_ending (Endings.Stopped 32 n)))) → ⊥
+pub through_place : Demand3 (of_functions check seal_check (telling (λ n. with_ending (Endings.Stopped Stops.GuardUnknown n)))) → ⊥
 unfolding with_ending
 through_place d = let same = (told _ d).ending in apart (cc)
 

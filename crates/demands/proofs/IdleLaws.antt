@@ -3,8 +3,9 @@ use mathlib.Core.Path.{◌≡◌, refl, sym, ap, ap₂, ◌∙◌}
 use mathlib.Core.List.{List, [], ◌∷◌}
 use Prim.Native.Nat.{ℕ, zero, suc, ◌≤◌}
 use native.Mathlib.Omega.{arith}
-use Rattle.base.specs.declared.Answer.{Answer}
-use Rattle.base.specs.declared.Answer.TheVariants.{Accepted}
+use Rattle.base.specs.declared.codes.Stop.TheVariants as Stops
+use Rattle.base.specs.declared.Refusal.{Refusal}
+use Rattle.base.specs.Refusals.{Accepted, Answer}
 use Rattle.base.proofs.BoolLaws.{impossible}
 use Rattle.word.specs.Words.{signed, word_of}
 use Rattle.table.proofs.Assembler.{assembled, immediate, var, word, binary, move, while}
@@ -43,7 +44,7 @@ unfolding with_budget ran signed word_of entries
 at_7 = refl
 
 -- "under budget 6 it stops with 35 at statement 0, x = 0"
-at_6 : ran (with_budget 6) ≡ record { ending = Stopped 35 0; ticks = 6; count = 0; next = 0; state = 1 ∷ 0 ∷ []; log = [] }
+at_6 : ran (with_budget 6) ≡ record { ending = Stopped Stops.NoTick 0; ticks = 6; count = 0; next = 0; state = 1 ∷ 0 ∷ []; log = [] }
 unfolding with_budget ran signed word_of entries
 at_6 = refl
 
@@ -52,7 +53,7 @@ unfolding with_budget ran signed word_of entries
 ticks_at_8 = refl
 
 -- under budget 1 it stops at its first move, x = 3
-at_1 : ran (with_budget 1) ≡ record { ending = Stopped 35 1; ticks = 1; count = 0; next = 0; state = 1 ∷ 3 ∷ []; log = [] }
+at_1 : ran (with_budget 1) ≡ record { ending = Stopped Stops.NoTick 1; ticks = 1; count = 0; next = 0; state = 1 ∷ 3 ∷ []; log = [] }
 unfolding with_budget ran signed word_of entries
 at_1 = refl
 
@@ -91,10 +92,10 @@ mixed_is : (r q : Result) → SameBuffers r q → mixed r q ≡ r
 mixed_is r q h = rw (h.count, h.next, h.state, h.log) refl
 
 module _ (check seal : List ℕ → Answer) where
-  pub refusing_shut_out : (code place : ℕ) → Demand2 (refusing check seal code place) → ⊥
+  pub refusing_shut_out : (e : Refusal) → Demand2 (refusing check seal e) → ⊥
   unfolding refusing
-  refusing_shut_out code place d =
-      let ending : Refused code place ≡ Done = ap (λ (r : Result). r.ending) (d.run (with_budget 7) _ refl (accepted 7) ∙ at_7) in
+  refusing_shut_out e d =
+      let ending : Refused e ≡ Done = ap (λ (r : Result). r.ending) (d.run (with_budget 7) _ refl (accepted 7) ∙ at_7) in
       impossible (cc)
 
   pub fixed_shut_out : (r : Result) → Demand2 (fixed check seal r) → ⊥
@@ -146,9 +147,9 @@ module _ (check seal : List ℕ → Answer) where
   -- ------------------------------------------------------------------------------------------------
   -- Demand 3 by itself would let the first three by
 
-  pub refusing_let_by : (code place : ℕ) → Demand3 (refusing check seal code place)
+  pub refusing_let_by : (e : Refusal) → Demand3 (refusing check seal e)
   unfolding refusing
-  refusing_let_by code place s t r q clean a given given' =
+  refusing_let_by e s t r q clean a given given' =
       rw (given, given') (record { ending = refl; ticks = refl; next = a.next; count = a.count; values = a.values })
 
   pub fixed_let_by : (r : Result) → Demand3 (fixed check seal r)

@@ -3,9 +3,9 @@ use mathlib.Core.Path.{◌≡◌, refl, sym, ap, ◌∙◌}
 use mathlib.Core.List.{List, ◌++◌}
 use mathlib.Core.Logic.{◌↔◌}
 use Prim.Native.Nat.{ℕ}
-use Rattle.base.specs.declared.Answer.{Answer}
-use Rattle.base.specs.declared.Answer.TheVariants.{Accepted, Refused}
-use Rattle.base.specs.Refusals.{AllHold, FirstFault, refusal, no_rule, one_more}
+use Rattle.std.specs.Prelude.{Ok, Err}
+use Rattle.base.specs.declared.Refusal.{Refusal}
+use Rattle.base.specs.Refusals.{Accepted, Answer, AllHold, FirstFault, refusal, no_rule, one_more}
 use Rattle.base.proofs.BoolLaws.{impossible}
 use Rattle.base.proofs.RefusalLaws.{accepted_iff, refused_iff, all_hold_append}
 use Rattle.table.specs.Bytes.{header}
@@ -28,23 +28,23 @@ use Rattle.running.proofs.AcceptedLaws.{records_of, table_ok_iff, checked, table
 use Rattle.demands.specs.Demands.{RulesHold}
 
 -- a run that was begun ends otherwise
-ran_not_refused : (s : Start) → Accepts s → {code place : ℕ} → (ran s).ending ≡ Endings.Refused code place → ⊥
+ran_not_refused : (s : Start) → Accepts s → {e : Refusal} → (ran s).ending ≡ Endings.Refused e → ⊥
 unfolding ran finished
-ran_not_refused s a {code} {place} = go (start_keeps s (checked (table_ok s a)) ((start_ok_iff s).0 (start_rules-hold s a))).ends
+ran_not_refused s a {e = r} = go (start_keeps s (checked (table_ok s a)) ((start_ok_iff s).0 (start_rules-hold s a))).ends
   where
-    go : {e : Ending} → EndsBy e → e ≡ Endings.Refused code place → ⊥
+    go : {e : Ending} → EndsBy e → e ≡ Endings.Refused r → ⊥
     go by_done e = impossible (cc)
-    go (by_stop least most) e = impossible (cc)
+    go by_stop e = impossible (cc)
 
-pub result_refused_iff : (s : Start) (code place : ℕ) → ((result s).ending ≡ Endings.Refused code place) ↔ FirstFault (run_rules s) code place
+pub result_refused_iff : (s : Start) (r : Refusal) → ((result s).ending ≡ Endings.Refused r) ↔ FirstFault (run_rules s) r.code r.place
 unfolding refused
-result_refused_iff s code place = (to (refusal (run_rules s)) refl, λ f. ap (λ (r : Result). r.ending) (result_refused s ((refused_iff (run_rules s) code place).1 f)))
+result_refused_iff s r = (to (refusal (run_rules s)) refl, λ f. ap (λ (r : Result). r.ending) (result_refused s ((refused_iff (run_rules s) r.code r.place).1 f)))
   where
-    to : (a : Answer) → refusal (run_rules s) ≡ a → (result s).ending ≡ Endings.Refused code place → FirstFault (run_rules s) code place
-    to Accepted e named = absurd (ran_not_refused s e (sym (ap (λ (r : Result). r.ending) (result_ran s e)) ∙ named))
-    to (Refused c p) e named =
-        let same : Endings.Refused c p ≡ Endings.Refused code place = sym (ap (λ (r : Result). r.ending) (result_refused s e)) ∙ named in
-        (refused_iff (run_rules s) code place).0 (cc)
+    to : (a : Answer) → refusal (run_rules s) ≡ a → (result s).ending ≡ Endings.Refused r → FirstFault (run_rules s) r.code r.place
+    to (Ok accepted) e named = absurd (ran_not_refused s e (sym (ap (λ (r : Result). r.ending) (result_ran s e)) ∙ named))
+    to (Err x) e named =
+        let same : Endings.Refused x ≡ Endings.Refused r = sym (ap (λ (r : Result). r.ending) (result_refused s e)) ∙ named in
+        (refused_iff (run_rules s) r.code r.place).0 (cc)
 
 -- refusals 14 and 15
 seal_rules-hold : (s : List ℕ) → AllHold (header_rules s ++ record_rules s) → AllHold (seal_rules s) ↔ SealHolds s

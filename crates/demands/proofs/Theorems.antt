@@ -4,9 +4,8 @@ use mathlib.Core.Path.{◌≡◌, refl, sym, ap, subst, ◌∙◌}
 use mathlib.Core.List.{List, ◌++◌}
 use mathlib.Core.Logic.{◌↔◌}
 use Prim.Native.Nat.{ℕ}
-use Rattle.base.specs.declared.Answer.{Answer}
-use Rattle.base.specs.declared.Answer.TheVariants.{Accepted, Refused}
-use Rattle.base.specs.Refusals.{FirstFault, refusal}
+use Rattle.std.specs.Prelude.{Ok, Err}
+use Rattle.base.specs.Refusals.{Accepted, Refused, Answer, FirstFault, refusal}
 use Rattle.base.proofs.RefusalLaws.{refused_iff}
 use Rattle.table.specs.Decode.{context}
 use Rattle.table.proofs.ExpressionLaws.{expr_view}
@@ -27,7 +26,7 @@ use Rattle.running.proofs.StartKeeps.{types_kept}
 use Rattle.running.proofs.AcceptedLaws.{checked, table_ok, next_accepts}
 use Rattle.secrecy.specs.Agreement.{SameResult}
 use Rattle.secrecy.proofs.Demand3.{demand_3_over_rules}
-use Rattle.demands.proofs.NumberLaws.{check_told, seal_told, run_told}
+use Rattle.demands.proofs.NumberLaws.{check_told, seal_told, run_told, check_gives_none, seal_gives_none, run_gives_none}
 use Rattle.demands.specs.Demands.{Library, rules, Demand1, RulesHold, TypesKept, Demand2, Decided, Demand3}
 use Rattle.demands.proofs.RuleLaws.{result_refused_iff, check_iff, seal_iff, starts_iff}
 
@@ -59,12 +58,11 @@ module _ (l : Library) (g : Gives l) where
         seal = λ s r given code place.
             subst (λ (x : Answer). (x ≡ Refused code place) ↔ FirstFault (check_rules s ++ seal_rules s) code place) (sym (g.seal given))
             (refused_iff (check_rules s ++ seal_rules s) code place);
-        run = λ s r given code place.
-            subst (λ (x : Result). (x.ending ≡ Endings.Refused code place) ↔ FirstFault (run_rules s) code place) (sym (g.run given))
-            (result_refused_iff s code place);
-        unchanged = λ s r given code place named.
-            let fault = (result_refused_iff s code place).0 (sym (ap (λ (x : Result). x.ending) (g.run given)) ∙ named) in
-            g.run given ∙ result_refused s ((refused_iff (run_rules s) code place).1 fault);
+        run = λ s r given e.
+            subst (λ (x : Result). (x.ending ≡ Endings.Refused e) ↔ FirstFault (run_rules s) e.code e.place) (sym (g.run given)) (result_refused_iff s e);
+        unchanged = λ s r given e named.
+            let fault = (result_refused_iff s e).0 (sym (ap (λ (x : Result). x.ending) (g.run given)) ∙ named) in
+            g.run given ∙ result_refused s ((refused_iff (run_rules s) e.code e.place).1 fault);
       }
 
   types_keep : TypesKept l
@@ -109,19 +107,19 @@ determined l one two = (
 )
   where
     verdict : (s : List ℕ) (r : Answer) → l.check s r → r ≡ check s
-    verdict s Accepted given = sym ((check_iff s).1 ((two.verdict s Accepted given).0 refl))
-    verdict s (Refused code place) given = sym ((refused_iff (check_rules s) code place).1 ((one.check s (Refused code place) given code place).0 refl))
+    verdict s (Ok accepted) given = sym ((check_iff s).1 ((two.verdict s _ given).0 refl))
+    verdict s (Err e) given = sym ((refused_iff (check_rules s) e.code e.place).1 ((one.check s (Err e) given e.code e.place).0 refl))
 
     sealed : (s : List ℕ) (r : Answer) → l.seal s r → r ≡ seal_check s
-    sealed s Accepted given = sym ((seal_iff s).1 ((two.seal s Accepted given).0 refl))
-    sealed s (Refused code place) given =
-        sym ((refused_iff (check_rules s ++ seal_rules s) code place).1 ((one.seal s (Refused code place) given code place).0 refl))
+    sealed s (Ok accepted) given = sym ((seal_iff s).1 ((two.seal s _ given).0 refl))
+    sealed s (Err e) given =
+        sym ((refused_iff (check_rules s ++ seal_rules s) e.code e.place).1 ((one.seal s (Err e) given e.code e.place).0 refl))
 
     ends : (s : Start) (r : Result) → l.run s r → (a : Answer) → refusal (run_rules s) ≡ a → r ≡ result s
-    ends s r given Accepted e = two.run s r given e ∙ sym (result_ran s e)
-    ends s r given (Refused code place) e =
-        let named = (one.run s r given code place).1 ((refused_iff (run_rules s) code place).0 e) in
-        one.unchanged s r given code place named ∙ sym (result_refused s e)
+    ends s r given (Ok accepted) e = two.run s r given e ∙ sym (result_ran s e)
+    ends s r given (Err x) e =
+        let named = (one.run s r given x).1 ((refused_iff (run_rules s) x.code x.place).0 e) in
+        one.unchanged s r given x named ∙ sym (result_refused s e)
 
 -- ------------------------------------------------------------------------------------------------
 -- The rules themselves, and what the words rest on
@@ -139,6 +137,9 @@ decided =
       answers = check_told;
       seal_answers = seal_told;
       endings = run_told;
+      no_check = check_gives_none;
+      no_seal = seal_gives_none;
+      no_run = run_gives_none;
       types = λ Γ e t. decides;
       one_type = λ Γ e t u. unique;
       labels = λ Γ e l. label_decides;

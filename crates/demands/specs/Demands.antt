@@ -1,22 +1,22 @@
 -- The three demands of the order (docs/ORDER.md), each under the customer's own words and in their order, stated once, of any library. What
 -- the rules give, what the code's contracts say, what C is told and the programs that are to be shut out are all such libraries.
 -- 'Document 01' is paper 01. Assumes nothing.
-use Rattle.std.specs.Prelude.{◌≡◌, Bool, false, List, ◌++◌, ◌↔◌, ℕ, ◌<◌, eqb, leb}
-use Rattle.base.specs.declared.Answer.{Answer}
-use Rattle.base.specs.declared.Answer.TheVariants.{Accepted, Refused}
+use Rattle.std.specs.Prelude.{◌≡◌, Bool, false, List, ◌++◌, ◌↔◌, ℕ, ◌<◌, eqb, leb, Some, None, Err}
 use Rattle.std.specs.Prelude.{if◌then◌else◌}
-use Rattle.base.specs.Refusals.{HoldsBelow, AllHold, FirstFault, code_of, place_of}
+use Rattle.base.specs.declared.codes.Code.{Code}
+use Rattle.base.specs.declared.codes.Code.TheVariants as Codes
+use Rattle.base.specs.declared.Refusal.{Refusal}
+use Rattle.base.specs.Named.{code_named, stop_named}
+use Rattle.base.specs.Refusals.{Accepted, Refused, Answer, HoldsBelow, AllHold, FirstFault, code_of, place_of}
 use Rattle.value.specs.declared.ValueType.{ValueType}
 use Rattle.table.specs.Bytes.{header}
 use Rattle.table.specs.Records.{RecordsHold, header_rules, record_rules}
 use Rattle.table.specs.Decode.{Context, context, expr}
 use Rattle.table.specs.Syntax.{Expr}
 use Rattle.forest.specs.Forest.{forest_rules}
-use Rattle.typing.specs.declared.Typed.TheVariants.{Of}
 use Rattle.typing.specs.Typing.{◌⊢◌∶◌, TypingHolds}
 use Rattle.typing.specs.Infer.{infer}
 use Rattle.typing.specs.Verdict.{check_rules, check}
-use Rattle.sealing.specs.declared.Label.TheVariants as Labels
 use Rattle.sealing.specs.Sealing.{Seals, Breaks, SealHolds}
 use Rattle.sealing.specs.Labels.{label_of}
 use Rattle.sealing.specs.Verdict.{expression_seal_rule, seal_rules, seal_check}
@@ -45,11 +45,11 @@ pub record Demand1 (l : Library) : Type 0 where
   pub seals : (s : List ℕ) → (r : Answer) × l.seal s r
   pub runs : (s : Start) → (r : Result) × l.run s r
   -- "A faulty one is answered by the first refusal in document 01's order, with its place,"
-  pub check : (s : List ℕ) (r : Answer) → l.check s r → (code place : ℕ) → (r ≡ Refused code place) ↔ FirstFault (check_rules s) code place
-  pub seal : (s : List ℕ) (r : Answer) → l.seal s r → (code place : ℕ) → (r ≡ Refused code place) ↔ FirstFault (check_rules s ++ seal_rules s) code place
-  pub run : (s : Start) (r : Result) → l.run s r → (code place : ℕ) → (r.ending ≡ Endings.Refused code place) ↔ FirstFault (run_rules s) code place
+  pub check : (s : List ℕ) (r : Answer) → l.check s r → (code : Code) (place : ℕ) → (r ≡ Refused code place) ↔ FirstFault (check_rules s) code place
+  pub seal : (s : List ℕ) (r : Answer) → l.seal s r → (code : Code) (place : ℕ) → (r ≡ Refused code place) ↔ FirstFault (check_rules s ++ seal_rules s) code place
+  pub run : (s : Start) (r : Result) → l.run s r → (e : Refusal) → (r.ending ≡ Endings.Refused e) ↔ FirstFault (run_rules s) e.code e.place
   -- "and the buffers stay unchanged.": `refused` has them, the log count and the next address as they were lent, and no ticks
-  pub unchanged : (s : Start) (r : Result) → l.run s r → (code place : ℕ) → r.ending ≡ Endings.Refused code place → r ≡ refused s code place
+  pub unchanged : (s : Start) (r : Result) → l.run s r → (e : Refusal) → r.ending ≡ Endings.Refused e → r ≡ refused s e
 
 -- ------------------------------------------------------------------------------------------------
 -- Demand 2
@@ -96,13 +96,27 @@ Demand3 l =
 -- ------------------------------------------------------------------------------------------------
 -- What a caller is told by numbers alone, as C is
 
+-- what a number tells that is no code of paper 01: a refusal that no rule gives, as 1 has place 0 alone
+abbrev pub nothing_told : Refusal
+nothing_told = record { code = Codes.TooShort; place = 1 }
+
+unfoldable pub refusal_of : ℕ → ℕ → Refusal
+unfolding code_named
+refusal_of code place = elim (code_named code) [ Some named ↦ record { code = named; place = place } | None ↦ nothing_told ]
+
+unfoldable pub stop_of : ℕ → ℕ → Ending
+unfolding stop_named
+stop_of code place = elim (stop_named code) [ Some named ↦ Endings.Stopped named place | None ↦ Endings.Refused nothing_told ]
+
 -- a check's code and place: 0 is "accepted, clean"
 unfoldable pub answer_of : ℕ → ℕ → Answer
-answer_of code place = if eqb code 0 then Accepted else Refused code place
+unfolding refusal_of
+answer_of code place = if eqb code 0 then Accepted else Err (refusal_of code place)
 
 -- a run's: 0 is "done"; 1 to 18 are refusals, what is above are stops
 unfoldable pub ending_of : ℕ → ℕ → Ending
-ending_of code place = if eqb code 0 then Endings.Done else (if leb code 18 then Endings.Refused code place else Endings.Stopped code place)
+unfolding refusal_of stop_of
+ending_of code place = if eqb code 0 then Endings.Done else (if leb code 18 then Endings.Refused (refusal_of code place) else stop_of code place)
 
 -- ------------------------------------------------------------------------------------------------
 -- What the demands' words rest on
@@ -114,10 +128,14 @@ pub record Decided : Type 0 where
   pub answers : (s : List ℕ) → answer_of (code_of (check s)) (place_of (check s)) ≡ check s
   pub seal_answers : (s : List ℕ) → answer_of (code_of (seal_check s)) (place_of (seal_check s)) ≡ seal_check s
   pub endings : (s : Start) → ending_of (Results.code_of (result s).ending) (Results.place_of (result s).ending) ≡ (result s).ending
+  -- and a number that is no code tells what no rule gives
+  pub no_check : (s : List ℕ) → FirstFault (check_rules s) nothing_told.code nothing_told.place → ⊥
+  pub no_seal : (s : List ℕ) → FirstFault (check_rules s ++ seal_rules s) nothing_told.code nothing_told.place → ⊥
+  pub no_run : (s : Start) → FirstFault (run_rules s) nothing_told.code nothing_told.place → ⊥
   -- where a verdict names a place it goes by `infer` and `label_of`: they say what the rules say of each expression
-  pub types : (Γ : Context) (e : Expr) (t : ValueType) → (infer Γ e ≡ Of t) ↔ (Γ ⊢ e ∶ t)
+  pub types : (Γ : Context) (e : Expr) (t : ValueType) → (infer Γ e ≡ Some t) ↔ (Γ ⊢ e ∶ t)
   pub one_type : (Γ : Context) (e : Expr) (t u : ValueType) → Γ ⊢ e ∶ t → Γ ⊢ e ∶ u → t ≡ u
-  pub labels : (Γ : Context) (e : Expr) (l : Bool) → (label_of Γ e ≡ Labels.Of l) ↔ Seals Γ e l
+  pub labels : (Γ : Context) (e : Expr) (l : Bool) → (label_of Γ e ≡ Some l) ↔ Seals Γ e l
   -- 14 names the lowest expression that breaks a seal rule itself
   pub broken :
       (s : List ℕ) → RecordsHold s → (i : ℕ) → i < (header s).expressions

@@ -1,7 +1,8 @@
 -- The five idle programs of paper 01's 'How tight the promises are'. Only their runs are told: each may have any verdicts, right ones
 -- too. proofs/IdleLaws.antt proves that demand 2 holds of none of them. Assumes nothing.
 use Rattle.std.specs.Prelude.{List, ℕ, zero, suc}
-use Rattle.base.specs.declared.Answer.{Answer}
+use Rattle.base.specs.declared.Refusal.{Refusal}
+use Rattle.base.specs.Refusals.{Answer}
 use Rattle.running.specs.declared.Ending.TheVariants.{Done}
 use Rattle.running.specs.Start.{Start}
 use Rattle.running.specs.Result.{Result, refused, result}
@@ -26,9 +27,9 @@ mixed r q = record { ending = r.ending; ticks = r.ticks; count = q.count; next =
 
 module _ (check seal : List ℕ → Answer) where
   -- "one that refuses everything", with a code and a place
-  unfoldable pub refusing : ℕ → ℕ → Library
+  unfoldable pub refusing : Refusal → Library
   unfolding refused
-  refusing code place = of_functions check seal (λ s. refused s code place)
+  refusing e = of_functions check seal (λ s. refused s e)
 
   -- "one with a fixed answer"
   unfoldable pub fixed : Result → Library

@@ -1,9 +1,8 @@
 -- Programs that a demand shuts out, one for each thing that it names. Each does as the rules say in all else. proofs/Counterexamples.antt
 -- proves of each that the demand, by itself, does not hold of it. Assumes nothing.
-use Rattle.std.specs.Prelude.{◌≡◌, List, ◌∷◌, reverse, ℕ, suc, ◌+◌, ◌*◌, get_or, set}
-use Rattle.base.specs.declared.Answer.{Answer}
-use Rattle.base.specs.declared.Answer.TheVariants.{Accepted, Refused}
-use Rattle.base.specs.Refusals.{Rule, refusal}
+use Rattle.std.specs.Prelude.{◌≡◌, List, ◌∷◌, reverse, ℕ, suc, ◌+◌, ◌*◌, get_or, set, Ok, Err}
+use Rattle.base.specs.declared.codes.Code.TheVariants as Codes
+use Rattle.base.specs.Refusals.{Accepted, Refused, Answer, Rule, refusal}
 use Rattle.running.specs.declared.Ending.{Ending}
 use Rattle.running.specs.declared.Ending.TheVariants as Endings
 use Rattle.running.specs.Start.{Start}
@@ -30,8 +29,8 @@ silent_run = record { check = λ s r. r ≡ check s; seal = λ s r. r ≡ seal_c
 
 -- "with its place": the right code with a wrong place
 unfoldable pub misplaced : Answer → Answer
-misplaced Accepted = Accepted
-misplaced (Refused code place) = Refused code (suc place)
+misplaced (Ok accepted) = Accepted
+misplaced (Err e) = Refused e.code (suc e.place)
 
 -- "the first refusal in document 01's order": a later fault is named first
 unfoldable pub last_first : List Rule → Answer
@@ -44,11 +43,11 @@ accepting s = Accepted
 
 -- and only a faulty one: a good table is refused
 unfoldable pub refusing_all : List ℕ → Answer
-refusing_all s = Refused 1 0
+refusing_all s = Refused Codes.TooShort 0
 
 -- "and the buffers stay unchanged": what else a refusal does
 unfoldable pub at_refusal : (Result → Result) → Result → Result
-at_refusal change r = elim r.ending [ Endings.Refused code place ↦ change r | Endings.Done ↦ r | Endings.Stopped code place ↦ r ]
+at_refusal change r = elim r.ending [ Endings.Refused e ↦ change r | Endings.Done ↦ r | Endings.Stopped stop place ↦ r ]
 
 -- ------------------------------------------------------------------------------------------------
 -- One part of a result changed

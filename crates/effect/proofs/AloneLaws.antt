@@ -3,6 +3,8 @@ use mathlib.Core.Path.{◌≡◌, refl, ap, ◌∙◌}
 use mathlib.Core.List.{List, []}
 use mathlib.Core.Option.{Option, none, some}
 use Prim.Native.Nat.{ℕ, zero, suc, ◌+◌, ◌<◌}
+use Rattle.base.specs.declared.codes.Stop.{Stop}
+use Rattle.base.specs.declared.codes.Stop.TheVariants as Stops
 use Rattle.value.specs.declared.Value.{Value}
 use Rattle.table.specs.Bytes.{header, statement}
 use Rattle.table.specs.Decode.{Context, context, expr, block_at}
@@ -45,13 +47,13 @@ module _ (s : List ℕ) (i : ℕ) (inside : i < (header s).statements) (room : �
       → alone ≡ left Done t (moved σ (statement s i).a v) M a
   move_value {v} {M} op p = is_move op ∙ ap moving p ∙ run_end (context s) room t (moved σ (statement s i).a v) M a
 
-  pub move_stops : {code : ℕ} {M : Log} → (statement s i).op ≡ 1 → E.eval (context s) room σ (expr s (statement s i).b) [] L ≡ E.stopped code M
+  pub move_stops : {code : Stop} {M : Log} → (statement s i).op ≡ 1 → E.eval (context s) room σ (expr s (statement s i).b) [] L ≡ E.stopped code M
       → alone ≡ stop code i t σ M a
   move_stops op p = is_move op ∙ ap moving p
 
   -- where a jump goes, with what is run then
   abbrev onward : (ℕ → Left) → Log → Option ℕ → Left
-  onward f M o = elim o [ none ↦ stop 33 i t σ M a | some d ↦ f d ]
+  onward f M o = elim o [ none ↦ stop Stops.JumpUnknown i t σ M a | some d ↦ f d ]
 
   abbrev jumping : E.Evaluated → Left
   jumping r = elim r [ E.stopped code M ↦ stop code i t σ M a | E.value v M ↦ onward (λ d. run (context s) room t S.end σ M d) M (target v) ]
@@ -68,7 +70,7 @@ module _ (s : List ℕ) (i : ℕ) (inside : i < (header s).statements) (room : �
       go none = refl
       go (some d) = run_end (context s) room t σ M d
 
-  pub jmp_stops : {code : ℕ} {M : Log} → (statement s i).op ≡ 2 → E.eval (context s) room σ (expr s (statement s i).a) [] L ≡ E.stopped code M
+  pub jmp_stops : {code : Stop} {M : Log} → (statement s i).op ≡ 2 → E.eval (context s) room σ (expr s (statement s i).a) [] L ≡ E.stopped code M
       → alone ≡ stop code i t σ M a
   jmp_stops op p = is_jmp op ∙ ap jumping p
 

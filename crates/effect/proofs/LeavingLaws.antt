@@ -1,43 +1,52 @@
 -- What a run leaves, by the evaluation of its statement's expression. Assumes nothing.
 use mathlib.Core.Path.{◌≡◌, refl, sym, ap, subst, ◌∙◌}
-use mathlib.Core.List.{List, []}
-use mathlib.Core.Option.{Option, none, some}
+use mathlib.Core.Bool.{Bool, true, false}
+use mathlib.Core.List.{List}
 use Prim.Native.Nat.{ℕ, ◌<◌}
 use native.Mathlib.Omega.{arith}
+use lib.Dec.{eqb}
+use Rattle.std.specs.Prelude.{Result, Ok, Err, ⊤}
+use Rattle.std.specs.Result.{IsErr, IsErrAnd}
+use Rattle.std.proofs.lemmas.Result.{err_from_is_err_and}
+use Rattle.base.specs.declared.codes.Stop.{Stop}
+use Rattle.base.specs.declared.codes.Stop.TheVariants as Stops
+use Rattle.base.proofs.BoolLaws.{impossible}
 use Rattle.value.specs.declared.ValueType.{ValueType}
 use Rattle.value.specs.declared.Value.{Value}
+use Rattle.value.specs.declared.Value.TheVariants.{Word, Unknown, Memory}
 use Rattle.table.specs.Bytes.{header}
 use Rattle.table.specs.Decode.{context, expr}
-use Rattle.memory.specs.Log.{entries, room_in}
+use Rattle.table.proofs.ExpressionLaws.{expr_view}
+use Rattle.memory.specs.declared.LogBuffer.{LogBuffer}
+use Rattle.memory.specs.Buffer.{held, room_of, Becomes}
 use Rattle.memory.proofs.LogLaws.{stay, length-entries}
-use Rattle.logs.proofs.HoldingLaws.{holding_entries}
+use Rattle.logs.proofs.AppendLaws.{becomes_same}
 use Rattle.evaluation.specs.Evaluation as E
 use Rattle.evaluation.specs.Evaluation.{Binding}
+use Rattle.evaluation.proofs.Formed.{formed}
 use Rattle.bindings.specs.Bound as Bound
 use Rattle.bindings.proofs.BoundLaws.{bindings_none, whole_none}
-use Rattle.operation.specs.declared.Evaluated.{Evaluated}
-use Rattle.operation.specs.declared.Evaluated.TheVariants.{Of}
-use Rattle.operation.specs.declared.Evaluated.TheVariants as Ended
-use Rattle.operation.specs.Outcome.{Leaves, answer}
+use Rattle.operation.specs.Outcome.{Leaves, answer, log_in}
 use Rattle.running.specs.declared.Ending.{Ending}
-use Rattle.running.specs.declared.Ending.TheVariants.{Done, Stopped}
-use Rattle.running.specs.Run.{Left, left, stop, target}
+use Rattle.running.specs.Run.{Left, left, Guard, guard, holds, fails, unsure}
 use Rattle.running.proofs.PairLaws.{declared, state_fits}
 use Rattle.evaluate.specs.Ready.{Ready}
-use Rattle.evaluate.proofs.WentLaws.{Went, Known}
-use Rattle.evaluate.proofs.ArmLaws.{Call, known_call, valued, ended}
-use Rattle.effect.specs.declared.guard.Tested.{Tested}
-use Rattle.effect.specs.declared.guard.Tested.TheVariants.{Stops}
-use Rattle.effect.specs.Leaving.{Running, RunLeaves, goes_on, stops_at, jump_of, test_of, tested, TestLeaves, evaluated}
+use Rattle.running.proofs.EvaluationKeeps.{eval_keeps}
+use Rattle.evaluate.proofs.WentLaws.{Went, Known, known, known_stop, known_of}
+use Rattle.evaluate.proofs.ArmLaws.{Call}
+use Rattle.effect.specs.declared.Halt.{Halt}
+use Rattle.effect.specs.declared.Machine.{Machine}
+use Rattle.effect.specs.Leaving as Leaving
+use Rattle.effect.specs.Leaving.{Running, RunLeaves, LogAlone, at_statement, ValueLeaves, test_of, tested, TestLeaves, evaluated}
 
 -- ------------------------------------------------------------------------------------------------
 -- Evaluation from where a run stands
 
-module _ {s σ l : List ℕ} {n a : ℕ} (here : Running s σ l n a) where
-  pub ready : Ready s σ l Bound.none n
+module _ {s : List ℕ} {m : Machine} (here : Running s m) where
+  pub ready : Ready s m.state.now m.log.now Bound.none
   ready =
       let most = here.stands.log.most in
-      let same = length-entries l n in
+      let same = length-entries m.log.now.numbers.now m.log.now.count in
       record {
         framed = here.framed;
         records = here.records;
@@ -51,79 +60,111 @@ module _ {s σ l : List ℕ} {n a : ℕ} (here : Running s σ l n a) where
       }
 
   -- nothing happened
-  pub stays : Went l n l n
+  pub stays : Went m.log.now m.log.now
   stays = record {
     on = stay;
     log = here.stands.log;
-    holds = sym (holding_entries l n ready.room);
+    becomes = becomes_same m.log.now ready.room;
     same = refl;
     room = ready.room;
   }
 
   abbrev evaluation : ℕ → E.Evaluated
-  evaluation e = evaluated s σ l n e
+  evaluation e = evaluated s m.state.now m.log.now e
 
-  -- an evaluation without bindings, by what it gave
-  module _ {m : List ℕ} {r : Evaluated} (e : ℕ) (inside : e < (header s).expressions) (left : Call s σ l Bound.none n e r m) where
-    known_here : (t : ValueType) × Known l n t (evaluation e) r m
-    known_here =
-        let (t, k) = known_call ready e inside left in
-        (t, subst (λ (ρ : List Binding). Known l n t (E.eval (context s) (room_in l) σ (expr s e) ρ (entries l n)) r m) bindings_none k)
+  -- what is known of an evaluation without bindings, by what it leaves
+  known_here : (e : ℕ) → e < (header s).expressions → {p : LogBuffer} → Becomes m.log.now (log_in (evaluation e)) p
+      → (t : ValueType) × Known m.log.now t (evaluation e) p (answer (evaluation e))
+  known_here e inside {p} left =
+      let (t, d) = here.typing.expressions e inside in
+      let gives =
+      eval_keeps (context s) (header s).variables (room_of m.log.now) m.state.now d (formed s (expr_view here.records) e inside)
+      (state_fits s (λ x h. declared _ (here.records.variables x h)) here.stands.state here.stands.log) in
+      (t, known_of gives (record { is = refl; log = left }))
 
-    pub gave : {v : Value} {k : ℕ} → r ≡ Of v k → Went l n m k × (evaluation e ≡ E.value v (entries m k))
-    gave p = let (t, k) = known_here in let h = valued k p in (h.went, h.is)
+  module _ (e : ℕ) (inside : e < (header s).expressions) {i : ℕ} {q : Machine} where
+    pub gave : {v : Value} → ValueLeaves m (evaluation e) i (Ok v) q → Went m.log.now q.log.now × (evaluation e ≡ E.value v (held q.log.now))
+    gave {v} left = let (t, k) = known_here e inside left.rest.log in go k left.is
+      where
+        go : {t : ValueType} {r : Result Value Stop} → Known m.log.now t (evaluation e) q.log.now r → Ok v ≡ at_statement i r
+            → Went m.log.now q.log.now × (evaluation e ≡ E.value v (held q.log.now))
+        go (known {v = u} w is h) p = let same : u ≡ v = cc in (w, is ∙ ap (λ (v : Value). E.value v (held q.log.now)) same)
+        go (known_stop w is) p = impossible (cc)
 
-    pub stopped : {code k : ℕ} → r ≡ Ended.Stopped code k → Went l n m k × (evaluation e ≡ E.stopped code (entries m k))
-    stopped p = let (t, k) = known_here in let h = ended k p in (h.went, h.is)
+    pub stopped : {h : Halt} → ValueLeaves m (evaluation e) i (Err h) q
+        → Went m.log.now q.log.now × ((evaluation e ≡ E.stopped h.code (held q.log.now)) × (h ≡ record { code = h.code; statement = i }))
+    stopped {h} left = let (t, k) = known_here e inside left.rest.log in go k left.is
+      where
+        go : {t : ValueType} {r : Result Value Stop} → Known m.log.now t (evaluation e) q.log.now r → Err h ≡ at_statement i r
+            → Went m.log.now q.log.now × ((evaluation e ≡ E.stopped h.code (held q.log.now)) × (h ≡ record { code = h.code; statement = i }))
+        go (known w is g) p = impossible (cc)
+        go (known_stop {code = c} w is) p =
+            let same : h ≡ record { code = c; statement = i } = cc in
+            let code : c ≡ h.code = sym (ap (λ (h : Halt). h.code) same) in
+            (w, (is ∙ ap (λ (c : Stop). E.stopped c (held q.log.now)) code, same ∙ ap (λ (c : Stop). record { code = c; statement = i }) code))
 
 -- ------------------------------------------------------------------------------------------------
 -- What is left
 
--- a run that ends in the numbers and buffers that are there
-pub leaves_left :
-    {l m σ : List ℕ} {n k t a : ℕ} {x : Left} (ending : Ending) → Went l n m k → x ≡ left ending t σ (entries m k) a
-    → RunLeaves l x (record { ending = ending; ticks = t; count = k; next = a }) σ m
+-- a run that ends in what the machine has
+pub leaves_left : {m q : Machine} {x : Left} {r : Result ⊤ Halt} (ending : Ending) → Went m.log.now q.log.now
+    → x ≡ left ending q.ticks q.state.now (held q.log.now) q.next → Leaving.ended r ≡ ending → q.state.ghost_name ≡ m.state.ghost_name
+    → q.log.ghost_name ≡ m.log.ghost_name → RunLeaves m x r q
 unfolding left
-leaves_left {l} {m} {σ} {k = k} {t = t} {a = a} ending w e =
-    let here : RunLeaves l (left ending t σ (entries m k) a) (record { ending = ending; ticks = t; count = k; next = a }) σ m =
-    record {
-      is = ap (λ (n : ℕ). record { ending = ending; ticks = t; count = n; next = a }) (sym (length-entries m k));
-      state = refl;
-      holds = w.holds;
-    } in
-    subst (λ (x : Left). RunLeaves l x (record { ending = ending; ticks = t; count = k; next = a }) σ m) (sym e) here
-
--- by a jump's target
-pub leaves_jump :
-    {l m σ : List ℕ} {n k : ℕ} {x : Left} (t a i : ℕ) (v : Value) → Went l n m k
-    → x ≡ elim (target v) [ none ↦ stop 33 i t σ (entries m k) a | some d ↦ left Done t σ (entries m k) d ]
-    → RunLeaves l x (jump_of v i t k a) σ m
-unfolding jump_of stop
-leaves_jump {l} {m} {σ} {k = k} {x = x} t a i v w = go (target v)
-  where
-    go : (o : Option ℕ)
-        → x ≡ elim o [ none ↦ stop 33 i t σ (entries m k) a | some d ↦ left Done t σ (entries m k) d ]
-        → RunLeaves l x (elim o [ none ↦ stops_at 33 i t k a | some d ↦ goes_on t k d ]) σ m
-    go none e = leaves_left (Stopped 33 i) w e
-    go (some d) e = leaves_left Done w e
+leaves_left {m} {q} {x} {r} ending w e is same same_log =
+    let here : RunLeaves m (left ending q.ticks q.state.now (held q.log.now) q.next) r q =
+    record { is = is; ticks = refl; next = refl; state = refl; log = w.becomes; same = same; same_log = same_log } in
+    subst (λ (x : Left). RunLeaves m x r q) (sym e) here
 
 -- ------------------------------------------------------------------------------------------------
 -- Guards
 
--- by what the evaluation gave
-abbrev pub tested_by : Evaluated → Tested
-tested_by (Of v n) = test_of v n
-tested_by (Ended.Stopped code n) = Stops code n
+-- a word that is 1, or isn't
+pub test_word : (w n : ℕ) → Ok (eqb n 1) ≡ test_of (Word w n)
+unfolding test_of guard
+test_word w n = go (eqb n 1)
+  where
+    go : (b : Bool) → Ok b ≡ (let g : Guard = elim b [ true ↦ holds | false ↦ fails ] in elim g as (λ g. Result Bool Stop) [ holds ↦ Ok true | fails ↦ Ok false | unsure ↦ Err Stops.GuardUnknown ])
+    go true = refl
+    go false = refl
 
-tested-by : (x : E.Evaluated) → tested_by (answer x) ≡ tested x
+pub test_other : (v : Value) → ((w n : ℕ) → v ≡ Word w n → ⊥) → Err Stops.GuardUnknown ≡ test_of v
+unfolding test_of guard
+test_other (Word w n) never = absurd (never w n refl)
+test_other (Unknown t) never = refl
+test_other (Memory w head) never = refl
+
+-- the test by an evaluation's answer
+abbrev by : Result Value Stop → Result Bool Stop
+by (Ok v) = test_of v
+by (Err code) = Err code
+
+by_answer : (x : E.Evaluated) → by (answer x) ≡ tested x
 unfolding tested
-tested-by (E.value v L) = refl
-tested-by (E.stopped code L) = refl
+by_answer (E.value v L) = refl
+by_answer (E.stopped code L) = refl
 
-pub test_leaves :
-    {l m : List ℕ} {r : Evaluated} {t : Tested} (s σ : List ℕ) (n e : ℕ) → Call s σ l Bound.none n e r m → t ≡ tested_by r
-    → TestLeaves l (evaluated s σ l n e) t m
-test_leaves {l} {m} {r} {t} s σ n e left is =
-    let whole : List Binding → E.Evaluated = λ ρ. E.eval (context s) (room_in l) σ (expr s e) ρ (entries l n) in
-    let here : Leaves l (whole []) r m = subst (λ (ρ : List Binding). Leaves l (whole ρ) r m) bindings_none left in
-    record { is = is ∙ ap tested_by here.is ∙ tested-by (whole []); holds = here.holds }
+-- by what the evaluation gave
+module _ (s σ : List ℕ) {l m : LogBuffer} (e : ℕ) where
+  pub plain : {r : Result Value Stop} → Call s σ l Bound.none e r m → Leaves l (evaluated s σ l e) r m
+  plain {r} left = subst (λ (ρ : List Binding). Leaves l (E.eval (context s) (room_of l) σ (expr s e) ρ (held l)) r m) bindings_none left
+
+  pub test_leaves : {r : Result Value Stop} {t : Result Bool Stop} → Call s σ l Bound.none e r m → t ≡ by r → TestLeaves l (evaluated s σ l e) t m
+  test_leaves left is =
+      let here = plain left in
+      record { is = is ∙ ap by here.is ∙ by_answer (evaluated s σ l e); log = here.log }
+
+-- the value of a statement's expression, from the machine's own state and log
+pub value_leaves : (s : List ℕ) {m q : Machine} (e : ℕ) {i : ℕ} {r : Result Value Stop} {y : Result Value Halt}
+    → Call s m.state.now m.log.now Bound.none e r q.log.now → y ≡ at_statement i r
+    → q.state.now ≡ m.state.now → q.ticks ≡ m.ticks → q.next ≡ m.next → q.state.ghost_name ≡ m.state.ghost_name
+    → q.log.ghost_name ≡ m.log.ghost_name → ValueLeaves m (evaluated s m.state.now m.log.now e) i y q
+value_leaves s {m} e {i} given is state ticks next same same_log =
+    let here = plain s m.state.now e given in
+    record { is = is ∙ ap (at_statement i) here.is; rest = record { log = here.log; state = state; ticks = ticks; next = next; same = same; same_log = same_log } }
+
+-- ------------------------------------------------------------------------------------------------
+-- The error of a call is handed on
+
+pub handed : {T : Type 0} {E : Type 0} (P : Result T E → Type 0) {e : E} {r : Result T E} → IsErr r × IsErrAnd r (λ y. y ≡ e) → P (Err e) → P r
+handed {T} {E} P {r = r} h p = let k = err_from_is_err_and r h.1 in subst P (sym (k.1 ∙ ap (λ (e : E). Err e) k.2)) p

@@ -1,67 +1,83 @@
 -- What the functions of statements without bodies ask and leave. Assumes nothing.
-use mathlib.Core.Path.{◌≡◌, sym, ap, subst, ◌∙◌}
+use mathlib.Core.Path.{◌≡◌, refl, sym, ap, subst, ◌∙◌}
 use mathlib.Core.List.{List}
+use mathlib.Core.Option.{none, some}
 use Prim.Native.Nat.{ℕ, suc, ◌+◌, ◌*◌, ◌<◌}
 use native.Mathlib.Omega.{arith}
 use lib.ListN.{length}
+use Rattle.std.specs.Prelude.{Ok, Err}
+use Rattle.base.specs.declared.codes.Stop.TheVariants as Stops
 use Rattle.value.specs.declared.Value.{Value}
+use Rattle.value.specs.declared.Value.TheVariants.{Word, Unknown, Memory}
 use Rattle.table.specs.declared.Node.{Node}
 use Rattle.table.specs.Bytes.{header, statement}
 use Rattle.table.specs.Decode.{block_at}
-use Rattle.memory.specs.Log.{entries, room_in}
+use Rattle.memory.specs.Buffer.{held, room_of}
 use Rattle.evaluation.specs.State.{moved}
-use Rattle.bindings.specs.Bound as Bound
-use Rattle.operation.specs.declared.Evaluated.{Evaluated}
-use Rattle.operation.specs.declared.Evaluated.TheVariants as Ended
+use Rattle.evaluation.specs.Evaluation as E
 use Rattle.running.specs.declared.Ending.TheVariants.{Done, Stopped}
-use Rattle.running.specs.Run.{Left, stop}
-use Rattle.evaluate.proofs.ArmLaws.{Call}
-use Rattle.effect.specs.declared.Ran.{Ran}
-use Rattle.effect.specs.Leaving.{Running, Standing, RunLeaves, goes_on, stops_at, jump_of, runs}
+use Rattle.running.specs.Run.{Left, left, stop, target}
+use Rattle.evaluate.proofs.WentLaws.{Went}
+use Rattle.effect.specs.declared.Halt.{Halt}
+use Rattle.effect.specs.declared.Machine.{Machine}
+use Rattle.effect.specs.Leaving.{Running, Standing, RunLeaves, ValueLeaves, evaluated, runs}
 use Rattle.effect.proofs.AloneLaws.{move_value, move_stops, jmp_value, jmp_stops, cpuexn_alone, special_alone}
-use Rattle.effect.proofs.LeavingLaws.{gave, stopped, leaves_left, leaves_jump, stays}
+use Rattle.effect.proofs.LeavingLaws.{gave, stopped, leaves_left, stays}
 use Rattle.effect.proofs.StandingLaws.{inside, move_fields, read_field, other_op}
 
-module _ {s σ l : List ℕ} {n a i : ℕ} {r : Node} (here : Running s σ l n a) (at : Standing s i) (is : r ≡ statement s i) where
+module _ {s : List ℕ} {m : Machine} {i : ℕ} {r : Node} (here : Running s m) (at : Standing s i) (is : r ≡ statement s i) where
   op_is : {k : ℕ} → r.op ≡ k → (statement s i).op ≡ k
   op_is e = sym (ap (λ (q : Node). q.op) is) ∙ e
 
-  abbrev alone : ℕ → Left
-  alone t = runs s σ l n a (suc t) (block_at s i 1)
+  abbrev alone : Left
+  alone = runs s m (suc m.ticks) (block_at s i 1)
 
   here_inside : i < (header s).statements
   here_inside = inside here.records at
 
+  -- an evaluation of expression e for it, that gave a value or stopped
+  abbrev Gave : ℕ → Value → Machine → Type 0
+  Gave e v q = ValueLeaves m (evaluated s m.state.now m.log.now e) i (Ok v) q
+
+  abbrev Halts : ℕ → Halt → Machine → Type 0
+  Halts e h q = ValueLeaves m (evaluated s m.state.now m.log.now e) i (Err h) q
+
+  -- a run that stops there, as the evaluation did
+  halted : {e : ℕ} {h : Halt} {q : Machine} → e < (header s).expressions → Halts e h q
+      → (evaluated s m.state.now m.log.now e ≡ E.stopped h.code (held q.log.now) → alone ≡ stop h.code i m.ticks m.state.now (held q.log.now) m.next)
+      → RunLeaves m alone (Err h) q
+  unfolding stop left
+  halted {e} {h} {q} k x f =
+      let (w, (p, n)) = stopped here e k x in
+      let rest = x.rest in
+      leaves_left (Stopped h.code i) w (f p ∙ rw (rest.ticks, rest.state, rest.next) refl) (ap (λ (h : Halt). Stopped h.code h.statement) n) rest.same rest.same_log
+
   -- a move
   module _ (op : r.op ≡ 1) where
-    pub move_asks : (r.b < (header s).expressions) × (2 * r.a + 1 < length σ)
+    fields : ((statement s i).a < (header s).variables) × ((statement s i).b < (header s).expressions)
+    fields = let f = move_fields here.records at (op_is op) in (f.0, f.2)
+
+    pub move_asks : (r.b < (header s).expressions) × (2 * r.a + 1 < length m.state.now)
     move_asks =
-        let f = move_fields here.records at (op_is op) in
         let long = here.stands.state.size in
-        let x : (statement s i).a < (header s).variables = f.0 in
-        subst (λ (q : Node). (q.b < (header s).expressions) × (2 * q.a + 1 < length σ)) (sym is) (f.2, omega arith)
+        let x : (statement s i).a < (header s).variables = fields.0 in
+        subst (λ (q : Node). (q.b < (header s).expressions) × (2 * q.a + 1 < length m.state.now)) (sym is) (fields.1, omega arith)
 
-    module _ {x : Evaluated} {m : List ℕ} (left : Call s σ l Bound.none n r.b x m) where
-      first : Call s σ l Bound.none n (statement s i).b x m
-      first = subst (λ (q : Node). Call s σ l Bound.none n q.b x m) is left
+    pub moves_not : {h : Halt} {q : Machine} → Halts r.b h q → RunLeaves m alone (Err h) q
+    moves_not {h} {q} x =
+        halted fields.1 (subst (λ (k : Node). Halts k.b h q) is x)
+        (move_stops s i here_inside (room_of m.log.now) m.state.now (held m.log.now) m.ticks m.next (op_is op))
 
-      pub moves_on : {v : Value} {k : ℕ} {τ : List ℕ} {y : Ran} (t : ℕ) → x ≡ Ended.Of v k → τ ≡ moved σ r.a v → y ≡ goes_on t k a
-          → RunLeaves l (alone t) y τ m
-      moves_on {v} {k} {τ} t e wrote same =
-          let f = move_fields here.records at (op_is op) in
-          let (w, p) = gave here (statement s i).b f.2 first e in
-          let now : τ ≡ moved σ (statement s i).a v = wrote ∙ ap (λ (q : Node). moved σ q.a v) is in
-          subst (λ (y : Ran). RunLeaves l (alone t) y τ m) (sym same)
-          (subst (λ (τ : List ℕ). RunLeaves l (alone t) (goes_on t k a) τ m) (sym now)
-          (leaves_left Done w (move_value s i here_inside (room_in l) σ (entries l n) t a (op_is op) p)))
-
-      pub moves_not : {code k : ℕ} {y : Ran} (t : ℕ) → x ≡ Ended.Stopped code k → y ≡ stops_at code i t k a → RunLeaves l (alone t) y σ m
-      unfolding stop
-      moves_not {code} {k} t e same =
-          let f = move_fields here.records at (op_is op) in
-          let (w, p) = stopped here (statement s i).b f.2 first e in
-          subst (λ (y : Ran). RunLeaves l (alone t) y σ m) (sym same)
-          (leaves_left (Stopped code i) w (move_stops s i here_inside (room_in l) σ (entries l n) t a (op_is op) p))
+    pub moves_on : {v : Value} {p q : Machine} → Gave r.b v p → q.state.now ≡ moved p.state.now r.a v → q.state.ghost_name ≡ p.state.ghost_name
+        → q.log ≡ p.log → q.ticks ≡ p.ticks → q.next ≡ p.next → RunLeaves m alone (Ok tt) q
+    moves_on {v} {p} {q} x wrote same log ticks next =
+        let (w, e) = gave here (statement s i).b fields.1 (subst (λ (k : Node). Gave k.b v p) is x) in
+        let rest = x.rest in
+        let state : q.state.now ≡ moved m.state.now (statement s i).a v =
+        wrote ∙ ap (λ (σ : List ℕ). moved σ r.a v) rest.state ∙ ap (λ (k : Node). moved m.state.now k.a v) is in
+        leaves_left Done (subst (λ (b : _). Went m.log.now b.now) (sym log) w)
+        (move_value s i here_inside (room_of m.log.now) m.state.now (held m.log.now) m.ticks m.next (op_is op) e
+        ∙ rw (ticks, rest.ticks, state, next, rest.next, log) refl) refl (same ∙ rest.same) (ap (λ (b : _). b.ghost_name) log ∙ rest.same_log)
 
   -- a jump
   module _ (op : r.op ≡ 2) where
@@ -73,31 +89,45 @@ module _ {s σ l : List ℕ} {n a i : ℕ} {r : Node} (here : Running s σ l n a
     pub jump_asks : r.a < (header s).expressions
     jump_asks = subst (λ (q : Node). q.a < (header s).expressions) (sym is) field
 
-    module _ {x : Evaluated} {m : List ℕ} (left : Call s σ l Bound.none n r.a x m) where
-      second : Call s σ l Bound.none n (statement s i).a x m
-      second = subst (λ (q : Node). Call s σ l Bound.none n q.a x m) is left
+    pub jumps_not : {h : Halt} {q : Machine} → Halts r.a h q → RunLeaves m alone (Err h) q
+    jumps_not {h} {q} x =
+        halted field (subst (λ (k : Node). Halts k.a h q) is x)
+        (jmp_stops s i here_inside (room_of m.log.now) m.state.now (held m.log.now) m.ticks m.next (op_is op))
 
-      pub jumps_on : {v : Value} {k : ℕ} {y : Ran} (t : ℕ) → x ≡ Ended.Of v k → y ≡ jump_of v i t k a → RunLeaves l (alone t) y σ m
-      jumps_on {v} {k} t e same =
-          let (w, p) = gave here (statement s i).a field second e in
-          subst (λ (y : Ran). RunLeaves l (alone t) y σ m) (sym same)
-          (leaves_jump t a i v w (jmp_value s i here_inside (room_in l) σ (entries l n) t a (op_is op) p))
+    module _ {v : Value} {p : Machine} (x : Gave r.a v p) where
+      onward : Went m.log.now p.log.now × (alone ≡ elim (target v) [ none ↦ stop Stops.JumpUnknown i m.ticks m.state.now (held p.log.now) m.next | some d ↦ left Done m.ticks m.state.now (held p.log.now) d ])
+      onward =
+          let (w, e) = gave here (statement s i).a field (subst (λ (k : Node). Gave k.a v p) is x) in
+          (w, jmp_value s i here_inside (room_of m.log.now) m.state.now (held m.log.now) m.ticks m.next (op_is op) e)
 
-      pub jumps_not : {code k : ℕ} {y : Ran} (t : ℕ) → x ≡ Ended.Stopped code k → y ≡ stops_at code i t k a → RunLeaves l (alone t) y σ m
-      unfolding stop
-      jumps_not {code} {k} t e same =
-          let (w, p) = stopped here (statement s i).a field second e in
-          subst (λ (y : Ran). RunLeaves l (alone t) y σ m) (sym same)
-          (leaves_left (Stopped code i) w (jmp_stops s i here_inside (room_in l) σ (entries l n) t a (op_is op) p))
+      pub jumps_on : {w d : ℕ} {q : Machine} → v ≡ Word w d → q.next ≡ d → q.state ≡ p.state → q.log ≡ p.log → q.ticks ≡ p.ticks
+          → RunLeaves m alone (Ok tt) q
+      unfolding target
+      jumps_on {q = q} e next state log ticks =
+          let (went, on) = onward in
+          let rest = x.rest in
+          let is : alone ≡ left Done m.ticks m.state.now (held p.log.now) _ = rw e at on in
+          leaves_left Done (subst (λ (b : _). Went m.log.now b.now) (sym log) went) (is ∙ rw (ticks, rest.ticks, state, rest.state, next, log) refl) refl (rw (state, rest.same) refl) (ap (λ (b : _). b.ghost_name) log ∙ rest.same_log)
+
+      pub jumps_nowhere : ((w d : ℕ) → v ≡ Word w d → ⊥) → RunLeaves m alone (Err (record { code = Stops.JumpUnknown; statement = i })) p
+      unfolding stop left target
+      jumps_nowhere never =
+          let (went, on) = onward in
+          let rest = x.rest in
+          leaves_left (Stopped Stops.JumpUnknown i) went (on ∙ unknown v never ∙ rw (rest.ticks, rest.state, rest.next) refl) refl rest.same rest.same_log
+        where
+          unknown : (v : Value) → ((w d : ℕ) → v ≡ Word w d → ⊥)
+              → elim (target v) [ none ↦ stop Stops.JumpUnknown i m.ticks m.state.now (held p.log.now) m.next | some d ↦ left Done m.ticks m.state.now (held p.log.now) d ]
+              ≡ stop Stops.JumpUnknown i m.ticks m.state.now (held p.log.now) m.next
+          unknown (Word w d) never = absurd (never w d refl)
+          unknown (Unknown t) never = refl
+          unknown (Memory w head) never = refl
 
   -- cpuexn and special
-  pub passes : {y : Ran} (t : ℕ) → (r.op ≡ 1 → ⊥) → (r.op ≡ 2 → ⊥) → (r.op ≡ 5 → ⊥) → (r.op ≡ 6 → ⊥) → y ≡ goes_on t n a
-      → RunLeaves l (alone t) y σ l
-  passes t n1 n2 n5 n6 same =
+  pub passes : (r.op ≡ 1 → ⊥) → (r.op ≡ 2 → ⊥) → (r.op ≡ 5 → ⊥) → (r.op ≡ 6 → ⊥) → RunLeaves m alone (Ok tt) m
+  passes n1 n2 n5 n6 =
       let same_op = ap (λ (q : Node). q.op) is in
-      let room = room_in l in
       let unmoved = stays here in
-      subst (λ (y : Ran). RunLeaves l (alone t) y σ l) (sym same)
-      (other_op here.records at (λ e. n1 (same_op ∙ e)) (λ e. n2 (same_op ∙ e)) (λ e. n5 (same_op ∙ e)) (λ e. n6 (same_op ∙ e))
-      (λ e. leaves_left Done unmoved (cpuexn_alone s i here_inside room σ (entries l n) t a e))
-      (λ e. leaves_left Done unmoved (special_alone s i here_inside room σ (entries l n) t a e)))
+      other_op here.records at (λ e. n1 (same_op ∙ e)) (λ e. n2 (same_op ∙ e)) (λ e. n5 (same_op ∙ e)) (λ e. n6 (same_op ∙ e))
+      (λ e. leaves_left Done unmoved (cpuexn_alone s i here_inside (room_of m.log.now) m.state.now (held m.log.now) m.ticks m.next e) refl refl refl)
+      (λ e. leaves_left Done unmoved (special_alone s i here_inside (room_of m.log.now) m.state.now (held m.log.now) m.ticks m.next e) refl refl refl)

@@ -8,6 +8,7 @@ use native.Mathlib.Omega.{arith}
 use lib.Dec.{ltb}
 use lib.ListN.{length}
 use borrow.Author.Tests.{le-leb, lt-leb}
+use Rattle.base.specs.declared.codes.Stop.TheVariants as Stops
 use Rattle.word.specs.Subs as Subs
 use Rattle.value.specs.declared.ValueType.{ValueType}
 use Rattle.value.specs.declared.Value.{Value}
@@ -154,7 +155,7 @@ module _ (Γ : Context) (room : ℕ) (σ : List ℕ) (at : ℕ → List Binding 
   eval_by (By.One a) ρ L = at a ρ L and_then λ x L. value (one_value r x) L
   eval_by (By.Two a b) ρ L = at a ρ L and_then λ x L. at b ρ L and_then λ y L. value (two_value L r x y) L
   eval_by (By.Let a b) ρ L =
-      at a ρ L and_then λ x L. elim (ltb (length ρ) most_bindings) [ true ↦ at b (record { variable = r.a; bound = x } ∷ ρ) L | false ↦ stopped 36 L ]
+      at a ρ L and_then λ x L. elim (ltb (length ρ) most_bindings) [ true ↦ at b (record { variable = r.a; bound = x } ∷ ρ) L | false ↦ stopped Stops.TooManyBindings L ]
   eval_by (By.Three a b c) ρ L = at a ρ L and_then λ x L. at b ρ L and_then λ y L. at c ρ L and_then λ z L. three_value room L r x y z
 
 module _ (s : List ℕ) (room : ℕ) (σ : List ℕ) where

@@ -1,96 +1,81 @@
 // The value of an expression by recursion on its operands, whose numbers are lower, in paper 01's order. It goes no deeper than the
-// table does: 64 expressions. Each call that goes down is handed the bindings by value, 712 bytes; so an
-// operand that has no operands itself is evaluated at once, without a call. Where an operand stops, that is the expression's own outcome.
-ghost use Rattle.std.specs.Prelude.{◌/◌, ◌<◌, length};
+// table does: 64 expressions. Where an operand stops, that is the expression's own outcome.
+ghost use Rattle.std.specs.Prelude.{◌<◌};
 ghost use Rattle.table.specs.Bytes as Bytes;
 ghost use Rattle.table.specs.Decode.{context, expr};
-ghost use Rattle.memory.specs.Log.{entry_size, entries};
+ghost use Rattle.memory.specs.Buffer.{held, room_of};
 ghost use Rattle.evaluation.specs.Evaluation as Evaluation;
 ghost use Rattle.bindings.specs.Bound.{bindings_of};
 ghost use Rattle.operation.specs.Outcome.{Leaves};
 ghost use Rattle.evaluate.specs.Ready.{Ready};
 
-use base::codes;
+use base::codes::Stop;
 use bindings::Bindings;
-use operation::leaf::{AtOnce, at_once, leaf};
+use memory::LogBuffer;
+use operation::after;
+use operation::leaf::{at_once, leaf};
 use operation::order::{Steps, steps_of};
-use operation::{Evaluated, after};
-use table::bytes;
+use table::read::Table;
+use value::Value;
 
 // "At most 64 bindings in force travel with the walk"
 const MOST_BINDINGS: usize = 64;
 
-// The count is how many entries the log has.
+#[cycle(eval_operand)]
 pub fn eval(
-    s: &[u8],
+    table: &Table,
     state: &[u64],
-    log: &mut [u64],
+    log: &mut LogBuffer,
     bindings: Bindings,
-    count: usize,
     i: u32,
-) -> Evaluated
-    requires ready { Ready s.now state.now log.old bindings count }
-    requires i_bound { i < (Bytes.header s.now).expressions }
-    ensures { Leaves log.old (Evaluation.eval (context s.now) (length log.old / entry_size) state.now (expr s.now i) (bindings_of bindings) (entries log.old count)) result log.new }
+) -> Result<Value, Stop>
+    requires ready { Ready table.now.frame.bytes.now state.now log.old bindings }
+    requires i_bound { i < (Bytes.header table.now.frame.bytes.now).expressions }
+    ensures { Leaves log.old (Evaluation.eval (context table.now.frame.bytes.now) (room_of log.old) state.now (expr table.now.frame.bytes.now i) (bindings_of bindings) (held log.old)) result log.new }
 {
-    let h = bytes::header(s);
-    let r = bytes::expression(s, h, i as usize);
-    let o = steps_of(r);
-    match o {
-        Steps::Leaf => Evaluated::Of(leaf(s, h, state, bindings, r), count),
+    let r = table.frame.expression(i);
+    match steps_of(r) {
+        Steps::Leaf => Ok(leaf(&table.frame, state, &bindings, r)),
         Steps::One(a) => {
-            let p = at_once(s, h, state, bindings, a);
-            let e = match p {
-                AtOnce::Is(v) => Evaluated::Of(v, count),
-                AtOnce::Deeper => eval(s, state, log, bindings, count, a),
-            };
-            after::one(r, e)
+            let x = operand(table, state, log, &bindings, a)?;
+            Ok(after::one(r, x))
         }
         Steps::Two(a, b) => {
-            let p = at_once(s, h, state, bindings, a);
-            let e = match p {
-                AtOnce::Is(v) => Evaluated::Of(v, count),
-                AtOnce::Deeper => eval(s, state, log, bindings, count, a),
-            };
-            let Evaluated::Of(x, n) = e else { return e };
-            let q = at_once(s, h, state, bindings, b);
-            let f = match q {
-                AtOnce::Is(v) => Evaluated::Of(v, n),
-                AtOnce::Deeper => eval(s, state, log, bindings, n, b),
-            };
-            after::two(log, r, x, f)
+            let x = operand(table, state, log, &bindings, a)?;
+            let y = operand(table, state, log, &bindings, b)?;
+            Ok(after::two(log, r, x, y))
         }
         Steps::Let(a, b) => {
-            let p = at_once(s, h, state, bindings, a);
-            let e = match p {
-                AtOnce::Is(v) => Evaluated::Of(v, count),
-                AtOnce::Deeper => eval(s, state, log, bindings, count, a),
-            };
-            let Evaluated::Of(x, n) = e else { return e };
+            let x = operand(table, state, log, &bindings, a)?;
             if MOST_BINDINGS <= bindings.count {
-                return Evaluated::Stopped(codes::TOO_MANY_BINDINGS, n);
+                return Err(Stop::TooManyBindings);
             }
-            eval(s, state, log, bindings.with(r.a, x), n, b)
+            eval(table, state, log, bindings.with(r.a, x), b)
         }
         Steps::Three(a, b, c) => {
-            let p = at_once(s, h, state, bindings, a);
-            let e = match p {
-                AtOnce::Is(v) => Evaluated::Of(v, count),
-                AtOnce::Deeper => eval(s, state, log, bindings, count, a),
-            };
-            let Evaluated::Of(x, n) = e else { return e };
-            let q = at_once(s, h, state, bindings, b);
-            let f = match q {
-                AtOnce::Is(v) => Evaluated::Of(v, n),
-                AtOnce::Deeper => eval(s, state, log, bindings, n, b),
-            };
-            let Evaluated::Of(y, m) = f else { return f };
-            let u = at_once(s, h, state, bindings, c);
-            let g = match u {
-                AtOnce::Is(v) => Evaluated::Of(v, m),
-                AtOnce::Deeper => eval(s, state, log, bindings, m, c),
-            };
-            after::three(log, r, x, y, g)
+            let x = operand(table, state, log, &bindings, a)?;
+            let y = operand(table, state, log, &bindings, b)?;
+            let z = operand(table, state, log, &bindings, c)?;
+            after::three(log, r, x, y, z)
         }
+    }
+}
+
+// An operand's value. The walk is handed the bindings by value, so an operand that has no operands itself is evaluated at once.
+#[cycle(eval_operand)]
+pub fn operand(
+    table: &Table,
+    state: &[u64],
+    log: &mut LogBuffer,
+    bindings: &Bindings,
+    i: u32,
+) -> Result<Value, Stop>
+    requires ready { Ready table.now.frame.bytes.now state.now log.old bindings.now }
+    requires i_bound { i < (Bytes.header table.now.frame.bytes.now).expressions }
+    ensures { Leaves log.old (Evaluation.eval (context table.now.frame.bytes.now) (room_of log.old) state.now (expr table.now.frame.bytes.now i) (bindings_of bindings.now) (held log.old)) result log.new }
+{
+    match at_once(&table.frame, state, bindings, i) {
+        Some(v) => Ok(v),
+        None => eval(table, state, log, *bindings, i),
     }
 }

@@ -5,6 +5,8 @@ use mathlib.Core.List.{List, ◌∷◌}
 use Prim.Native.Nat.{ℕ}
 use lib.Dec.{eqb}
 use borrow.Author.Tests.{eqb-true}
+use Rattle.base.specs.declared.codes.Stop.{Stop}
+use Rattle.base.specs.declared.codes.Stop.TheVariants as Stops
 use Rattle.value.specs.declared.ValueType.{ValueType}
 use Rattle.value.specs.declared.Value.{Value}
 use Rattle.table.specs.Decode.{Context}
@@ -46,15 +48,15 @@ has_look {Γ} {L} {other = other} x (inside {b = b} {ρ = ρ} k r) h = go (eqb b
 -- ------------------------------------------------------------------------------------------------
 -- Results
 
--- the numbers that stop an evaluation
-pub data StopsBy : ℕ → Type 0 where
-  log_full : StopsBy 34
-  too_many_bindings : StopsBy 36
+-- what stops an evaluation
+pub data StopsBy : Stop → Type 0 where
+  log_full : StopsBy Stops.LogFull
+  too_many_bindings : StopsBy Stops.TooManyBindings
 
 -- a value of a type, or a stop; either way the log goes on from L, by its rules and within its room
 pub data Gives (room : ℕ) (L : Log) (t : ValueType) : Evaluated → Type 0 where
   gives : {v : Value} {M : Log} → L ⊑ M → InRoom room M → Has M v t → Gives room L t (value v M)
-  stops : {code : ℕ} {M : Log} → L ⊑ M → InRoom room M → StopsBy code → Gives room L t (stopped code M)
+  stops : {code : Stop} {M : Log} → L ⊑ M → InRoom room M → StopsBy code → Gives room L t (stopped code M)
 
 pub gives_more : {room : ℕ} {L M : Log} {t : ValueType} {r : Evaluated} → L ⊑ M → Gives room M t r → Gives room L t r
 gives_more p (gives q k h) = gives (⊑_trans p q) k h

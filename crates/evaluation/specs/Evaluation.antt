@@ -3,6 +3,8 @@
 -- `completed` and `narrowed` mark where paper 01 completes or narrows them. Assumes nothing.
 use Rattle.std.proofs.Math.Bool.{true, false}
 use Rattle.std.specs.Prelude.{List, [], ◌∷◌, ℕ, eqb, ltb, length}
+use Rattle.base.specs.declared.codes.Stop.{Stop}
+use Rattle.base.specs.declared.codes.Stop.TheVariants as Stops
 use Rattle.value.specs.declared.ValueType.TheVariants.{Imm}
 use Rattle.value.specs.declared.Value.{Value}
 use Rattle.value.specs.declared.Value.TheVariants.{Word, Unknown}
@@ -14,10 +16,10 @@ use Rattle.memory.specs.Log.{Log}
 use Rattle.memory.specs.Access as Access
 use Rattle.evaluation.specs.State.{in_state}
 
--- a value and the log, or the number of a stop and the log as it was then
+-- a value and the log, or a stop and the log as it was then
 pub data Evaluated : Type 0 where
   value : Value → Log → Evaluated
-  stopped : ℕ → Log → Evaluated
+  stopped : Stop → Log → Evaluated
 
 infixl 15 ◌and_then◌
 -- "a stop where the run first meets it": what comes after a stop is not evaluated
@@ -28,7 +30,7 @@ stopped code L and_then f = stopped code L
 -- narrowed: the log has room for so many entries; 34: "a byte to append, log full"
 unfoldable pub after_store : Access.Stored → Evaluated
 after_store (Access.stored v L) = value v L
-after_store (Access.full L) = stopped 34 L
+after_store (Access.full L) = stopped Stops.LogFull L
 
 -- ------------------------------------------------------------------------------------------------
 -- Bindings of let variables, the innermost first
@@ -68,7 +70,7 @@ module _ (Γ : Context) (room : ℕ) (σ : List ℕ) where
   -- "let bound then body" (LET_STEP, LET: by a binding, not by substitution); narrowed: 36, "a let would put a 65th binding in force"
   eval (S.lets x e f) ρ L =
       eval e ρ L and_then λ a L.
-      elim (ltb (length ρ) most_bindings) [ true ↦ eval f (record { variable = x; bound = a } ∷ ρ) L | false ↦ stopped 36 L ]
+      elim (ltb (length ρ) most_bindings) [ true ↦ eval f (record { variable = x; bound = a } ∷ ρ) L | false ↦ stopped Stops.TooManyBindings L ]
   eval (S.unknown t) ρ L = value (Unknown t) L
   -- "ite else, then, condition" (ITE_STEP_ELSE, ITE_STEP_THEN, ITE_STEP_COND): "Both branches of an ite are evaluated."
   eval (S.ite c e f) ρ L = eval f ρ L and_then λ z L. eval e ρ L and_then λ y L. eval c ρ L and_then λ x L. value (Values.choose x y z) L

@@ -11,13 +11,13 @@ use lib.Dec.{leb, ltb, eqb, lit<}
 use lib.ListN.{length, get_or, drop, replicate, length-replicate}
 use lib.Seq.{drop-drop}
 use borrow.Author.Tests.{lt-ltb, le-leb, le-ltb, eq-eqb, ne_eqb}
-use Rattle.std.specs.Prelude.{if◌then◌else◌}
+use Rattle.std.specs.Prelude.{Option, if◌then◌else◌}
 use Rattle.base.specs.Numbered.{numbered}
-use Rattle.base.specs.Refusals.{HoldsBelow, AllHold, no_rule, one_more}
-use Rattle.base.specs.declared.Answer.TheVariants.{Accepted}
+use Rattle.base.specs.Refusals.{Accepted, HoldsBelow, AllHold, no_rule, one_more}
 use Rattle.base.proofs.BoolLaws.{and_both}
 use Rattle.base.proofs.CourseLaws.{up_to_at}
 use Rattle.base.proofs.RefusalLaws.{accepted_iff}
+use Rattle.value.specs.declared.ValueType.{ValueType}
 use Rattle.table.specs.declared.Header.{Header}
 use Rattle.table.specs.declared.Variable.{Variable}
 use Rattle.table.specs.declared.Node.{Node}
@@ -33,7 +33,6 @@ use Rattle.forest.specs.Forest.{forest_rules, use_rule, depth_rule, nesting_rule
 use Rattle.forest.specs.Forest.{how_often, over, uses, operands_of, expressions_of, largest, depths, nesting, in_body_of, in_scope}
 use Rattle.forest.proofs.CountLaws.{how_often-append}
 use Rattle.forest.proofs.DepthLaws.{depths_at}
-use Rattle.typing.specs.declared.Typed.{Typed}
 use Rattle.typing.specs.Infer.{infer, is_type, has_type}
 use Rattle.typing.specs.Verdict.{type_rules, check, expression_type_rule, statement_type_rule, statement_typed, statement_types}
 use Rattle.examples.proofs.ReadBack.{variable_drop, node_drop, variable_copy, from, node_from}
@@ -267,7 +266,7 @@ module _
   unfolding statement_type_rule statement_typed statement_types is_type infer context
   statement-typed i h =
       let inside : i < 1024 = omega (arith, statements_are) in
-      let type : ℕ → Typed = λ k. infer (context s) (expr s k) in
+      let type : ℕ → Option ValueType = λ k. infer (context s) (expr s k) in
       ap (λ (r : Node). numbered (λ Γ A r type. true) statement_types r.op (context s) (header s).width r type) (moves i inside)
       ∙ ap₂ (λ (v : Variable) e. is_type (declared_type v) (infer (context s) e)) (variables 0 (lit< tt)) (not_is i inside)
 

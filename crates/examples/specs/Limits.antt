@@ -8,9 +8,9 @@ use Prim.Native.Nat.{ℕ, zero, suc, pred, ◌+◌, ◌*◌, ◌/◌, ◌%◌, �
 use Rattle.std.proofs.Math.Dec.{leb}
 use Rattle.std.proofs.lemmas.List.{length-replicate}
 use borrow.Author.Tests.{le-leb, eq-eqb}
+use Rattle.base.specs.declared.codes.Code.TheVariants as Codes
 use Rattle.base.specs.Choice.{within}
-use Rattle.base.specs.Refusals.{HoldsBelow, AllHold, no_rule, one_more, here, further, refusal}
-use Rattle.base.specs.declared.Answer.TheVariants.{Accepted, Refused}
+use Rattle.base.specs.Refusals.{Accepted, Refused, HoldsBelow, AllHold, no_rule, one_more, here, further, refusal}
 use Rattle.base.proofs.BoolLaws.{and_both}
 use Rattle.base.proofs.RefusalLaws.{accepted_iff, refused_iff, refusal_rest}
 use Rattle.table.specs.Bytes.{header}
@@ -44,33 +44,33 @@ abbrev counts : ℕ → ℕ → ℕ → Bool
 counts v e n = leb v 256 && (leb e 2048 && within 1 1024 n)
 
 module _ (s : List ℕ) (o : Opens s) where
-  refused_count : counts (header s).variables (header s).expressions (header s).statements ≡ false → Types.check s ≡ Refused 3 0
+  refused_count : counts (header s).variables (header s).expressions (header s).statements ≡ false → Types.check s ≡ Refused Codes.Count 0
   unfolding Types.check check_rules header_rules
   refused_count fails =
-      (refused_iff (check_rules s) 3 0).1
+      (refused_iff (check_rules s) Codes.Count 0).1
       (further (λ i h. le-leb 32 _ o.long)
       (further (λ i h. and_both (eq-eqb _ 1 o.format) (and_both (le-leb 1 _ o.least) (le-leb _ 64 o.most)))
       (here (omega arith) (λ i h. absurd (omega arith)) fails)))
 
-  pub variables_257 : (header s).variables ≡ 257 → Types.check s ≡ Refused 3 0
+  pub variables_257 : (header s).variables ≡ 257 → Types.check s ≡ Refused Codes.Count 0
   variables_257 is = refused_count (ap (λ (v : ℕ). counts v (header s).expressions (header s).statements) is)
 
-  pub expressions_2049 : (header s).expressions ≡ 2049 → Types.check s ≡ Refused 3 0
+  pub expressions_2049 : (header s).expressions ≡ 2049 → Types.check s ≡ Refused Codes.Count 0
   expressions_2049 is =
       refused_count (ap (λ (e : ℕ). counts (header s).variables e (header s).statements) is ∙ and-false (leb (header s).variables 256))
 
   -- neither of the other counts saves it
-  statements_refused : within 1 1024 (header s).statements ≡ false → Types.check s ≡ Refused 3 0
+  statements_refused : within 1 1024 (header s).statements ≡ false → Types.check s ≡ Refused Codes.Count 0
   statements_refused fails =
       refused_count
       (ap (λ (t : Bool). leb (header s).variables 256 && (leb (header s).expressions 2048 && t)) fails
       ∙ ap (λ (t : Bool). leb (header s).variables 256 && t) (and-false (leb (header s).expressions 2048))
       ∙ and-false (leb (header s).variables 256))
 
-  pub statements_1025 : (header s).statements ≡ 1025 → Types.check s ≡ Refused 3 0
+  pub statements_1025 : (header s).statements ≡ 1025 → Types.check s ≡ Refused Codes.Count 0
   statements_1025 is = statements_refused (ap (within 1 1024) is)
 
-  pub statements_0 : (header s).statements ≡ 0 → Types.check s ≡ Refused 3 0
+  pub statements_0 : (header s).statements ≡ 0 → Types.check s ≡ Refused Codes.Count 0
   statements_0 is = statements_refused (ap (within 1 1024) is)
 
 -- bytes whose header has an address width, counts, their offsets and the total, which is also their length
@@ -133,7 +133,7 @@ module _ (log : List ℕ) where
   unfolding with_log ran
   log_65536 e = ap (λ r. r.ending) (result_ran (with_log log) (accepts_65536 e))
 
-  pub log_65537 : length log ≡ 4 * 65537 → (result (with_log log)).ending ≡ Endings.Refused 16 1
+  pub log_65537 : length log ≡ 4 * 65537 → (result (with_log log)).ending ≡ Endings.Refused (record { code = Codes.Start; place = 1 })
   unfolding with_log run_rules start_rules numbers_ok refused
   log_65537 e = ap (λ r. r.ending) (result_refused (with_log log) (refusal_rest (check_rules paper) (start_rules (with_log log)) paper_accepted ∙ second))
     where
@@ -141,13 +141,13 @@ module _ (log : List ℕ) where
       below zero h = refl
       below (suc i) h = absurd (omega arith)
 
-      second : refusal (start_rules (with_log log)) ≡ Refused 16 1
-      second = (refused_iff (start_rules (with_log log)) 16 1).1 (here (lit< tt) below (ap fits e))
+      second : refusal (start_rules (with_log log)) ≡ Refused Codes.Start 1
+      second = (refused_iff (start_rules (with_log log)) Codes.Start 1).1 (here (lit< tt) below (ap fits e))
 
 -- such logs, of zeros
 pub zero_logs :
     ((result (with_log (replicate (4 * 65536) 0))).ending ≡ Endings.Done)
-    × ((result (with_log (replicate (4 * 65537) 0))).ending ≡ Endings.Refused 16 1)
+    × ((result (with_log (replicate (4 * 65537) 0))).ending ≡ Endings.Refused (record { code = Codes.Start; place = 1 }))
 zero_logs = (log_65536 _ (length-replicate {A = ℕ} (4 * 65536) 0), log_65537 _ (length-replicate {A = ℕ} (4 * 65537) 0))
 
 -- ------------------------------------------------------------------------------------------------

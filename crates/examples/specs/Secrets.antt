@@ -2,7 +2,7 @@
 -- equal logs or of empty ones, would leave a pair out. Assumes nothing.
 use Rattle.std.specs.Prelude.{◌≡◌, refl, false, List, [], ◌∷◌, ◌++◌, ℕ, zero, suc, ◌<◌}
 use Rattle.std.proofs.Common.{sym, true≢false, arith}
-use Rattle.base.specs.declared.Answer.TheVariants.{Accepted}
+use Rattle.base.specs.Refusals.{Accepted}
 use Rattle.table.specs.Decode.{context}
 use Rattle.table.proofs.Assembler.{assembled, immediate, memory, sealed, var, word, load, store, move}
 use Rattle.sealing.specs.Verdict.{seal_check}

@@ -1,132 +1,118 @@
--- What is known where a run has ended: its numbers and buffers are what it left, and another may start from them. Assumes nothing.
+-- What is known where a run has ended: the machine has what it left, and another run may start from it. Assumes nothing.
 use mathlib.Core.Path.{◌≡◌, refl, sym, ap, subst, ◌∙◌}
 use mathlib.Core.List.{List}
-use Prim.Native.Nat.{ℕ, ◌/◌, ◌≤◌}
+use Prim.Native.Nat.{ℕ, suc, ◌≤◌}
 use native.Mathlib.Omega.{arith}
-use lib.ListN.{length}
-use Rattle.table.specs.Bytes.{header}
-use Rattle.table.specs.Records.{Framed, RecordsHold}
+use Rattle.std.specs.Prelude.{Result, Ok, Err, ⊤}
 use Rattle.table.specs.Decode.{context}
 use Rattle.table.specs.Syntax.{Block}
-use Rattle.typing.specs.Typing.{TypingHolds}
-use Rattle.memory.specs.Log.{Log, entry_size, entries, holding, room_in}
-use Rattle.memory.proofs.LogLaws.{entries_holding}
-use Rattle.running.specs.declared.Ending.{Ending}
-use Rattle.running.specs.declared.Ending.TheVariants.{Done, Refused, Stopped}
+use Rattle.memory.specs.Buffer.{held, room_of}
+use Rattle.logs.proofs.AfterLaws.{becomes_held}
 use Rattle.running.specs.Run.{Left, left, run}
 use Rattle.running.proofs.PairLaws.{declared}
 use Rattle.running.specs.Standing.{Stands}
 use Rattle.running.proofs.RunKeeps.{Kept, run_keeps}
-use Rattle.evaluate.proofs.WentLaws.{Went, went, over}
-use Rattle.effect.specs.declared.Ran.{Ran}
-use Rattle.effect.specs.Leaving.{Running, RunLeaves, numbers_of, runs}
+use Rattle.evaluate.proofs.WentLaws.{Went, went, same_room, over}
+use Rattle.effect.specs.declared.Halt.{Halt}
+use Rattle.effect.specs.declared.Machine.{Machine}
+use Rattle.effect.specs.Leaving.{Running, RunLeaves, ended, runs}
 use Rattle.effect.proofs.StandingLaws.{Good}
 use Rattle.effect.proofs.LeavingLaws.{stays}
+use Rattle.execute.specs.Begun.{Begins}
 use Rattle.execute.proofs.ThenLaws.{onward}
 
--- the table's part of `Running`
-pub record Table (s : List ℕ) : Type 0 where
-  pub framed : Framed s (header s)
-  pub records : RecordsHold s
-  pub typing : TypingHolds s
+-- a run x from machine m with t ticks has ended with r and machine q
+pub record Ended (s : List ℕ) (m : Machine) (t : ℕ) (x : Left) (r : Result ⊤ Halt) (q : Machine) : Type 0 where
+  pub is : x ≡ left (ended r) q.ticks q.state.now (held q.log.now) q.next
+  pub went : Went m.log.now q.log.now
+  pub again : Running s q
+  pub fewer : q.ticks ≤ t
 
-abbrev pub table_of : {s σ l : List ℕ} {n a : ℕ} → Running s σ l n a → Table s
-table_of here = record { framed = here.framed; records = here.records; typing = here.typing }
-
--- an ending after which nothing more is run
-pub data Halts (e : Ending) : Type 0 where
-  refuses : {code place : ℕ} → e ≡ Refused code place → Halts e
-  stops : {code place : ℕ} → e ≡ Stopped code place → Halts e
-
--- a run x from a buffer l of n entries with t ticks has ended with r, the state σ and the buffer m
-pub record Ended (s l : List ℕ) (n t : ℕ) (x : Left) (r : Ran) (σ m : List ℕ) : Type 0 where
-  pub is : x ≡ left r.ending r.ticks σ (entries m r.count) r.next
-  pub went : Went l n m r.count
-  pub again : Running s σ m r.count r.next
-  pub fewer : r.ticks ≤ t
-
--- by what it left
-from_left : {s l : List ℕ} {n t : ℕ} (x : Left) → Table s → Kept s (room_in l) t (entries l n) x
-    → Ended s l n t x (numbers_of x) x.state (holding l x.log)
+from_leaves : {s : List ℕ} {m q : Machine} {t : ℕ} {x : Left} {r : Result ⊤ Halt} → Running s m → Kept s (room_of m.log.now) t (held m.log.now) x
+    → RunLeaves m x r q → Ended s m t x r q
 unfolding left
-from_left {s} {l} {n} x table k =
-    let same = entries_holding l x.log in
-    let w = went l n x.log k.grown k.log in
+from_leaves {s} {m} {q} {t} {x} {r} here k leaves =
+    let w = went k.grown k.log leaves.log in
+    let log = becomes_held leaves.log in
+    let less = k.remaining in
+    let stands : Stands s (room_of m.log.now) x.state x.log x.next = record { state = k.state; log = k.log; next = k.next } in
     record {
-      is = ap (λ (L : Log). left x.ending x.remaining x.state L x.next) (sym same);
+      is = rw (leaves.is, leaves.ticks, leaves.state, log, leaves.next) refl;
       went = w;
       again = record {
-        framed = table.framed;
-        records = table.records;
-        typing = table.typing;
-        stands = subst (λ (size : ℕ). Stands s (size / entry_size) x.state (entries (holding l x.log) (length x.log)) x.next) (sym w.same)
-            (subst (λ (L : Log). Stands s (room_in l) x.state L x.next) (sym same)
-            (record { state = k.state; log = k.log; next = k.next }));
+        framed = here.framed;
+        records = here.records;
+        typing = here.typing;
+        stands = rw (same_room w, leaves.state, log, leaves.next) stands;
       };
-      fewer = k.remaining;
+      fewer = rw leaves.ticks less;
     }
 
-from_leaves : {s l σ m : List ℕ} {n t : ℕ} {x : Left} {r : Ran} → Table s → Kept s (room_in l) t (entries l n) x → RunLeaves l x r σ m
-    → Ended s l n t x r σ m
-from_leaves {s} {l} {σ} {m} {n} {t} {x} {r} table k leaves =
-    subst (λ (r : Ran). Ended s l n t x r σ m) (sym leaves.is)
-    (subst (λ (σ : List ℕ). Ended s l n t x (numbers_of x) σ m) (sym leaves.state)
-    (subst (λ (m : List ℕ). Ended s l n t x (numbers_of x) x.state m) (sym leaves.holds) (from_left x table k)))
-
-pub ended : {s σ l τ m : List ℕ} {n a : ℕ} {r : Ran} (t : ℕ) {b : Block} → Running s σ l n a → Good s b → RunLeaves l (runs s σ l n a t b) r τ m
-    → Ended s l n t (runs s σ l n a t b) r τ m
-ended {s} {l = l} t here good leaves =
-    from_leaves (table_of here)
-    (run_keeps s (λ x h. declared _ (here.records.variables x h)) (room_in l) t good.typed good.formed here.stands) leaves
+pub ends : {s : List ℕ} {m q : Machine} {r : Result ⊤ Halt} (t : ℕ) {b : Block} → Running s m → Good s b → RunLeaves m (runs s m t b) r q
+    → Ended s m t (runs s m t b) r q
+ends {s} {m} t here good =
+    from_leaves here (run_keeps s (λ x h. declared _ (here.records.variables x h)) (room_of m.log.now) t good.typed good.formed here.stands)
 
 -- ------------------------------------------------------------------------------------------------
 -- On from there
 
-module _ {s l σ m : List ℕ} {n t : ℕ} {x : Left} {r : Ran} (e : Ended s l n t x r σ m) (k : Block) where
+module _ {s : List ℕ} {m q : Machine} {t : ℕ} {x : Left} (k : Block) where
   -- done: the next block is run from what is there
-  pub goes_onward : r.ending ≡ Done → onward (context s) (room_in l) x k ≡ runs s σ m r.count r.next r.ticks k
+  pub goes_onward : {u : ⊤} → Ended s m t x (Ok u) q → onward (context s) (room_of m.log.now) x k ≡ runs s q q.ticks k
   unfolding onward left
-  goes_onward d =
-      ap (λ (x : Left). onward (context s) (room_in l) x k)
-      (e.is ∙ ap (λ (ending : Ending). left ending r.ticks σ (entries m r.count) r.next) d)
-      ∙ ap (λ (size : ℕ). run (context s) (size / entry_size) r.ticks k σ (entries m r.count) r.next) (sym e.went.same)
+  goes_onward e =
+      ap (λ (x : Left). onward (context s) (room_of m.log.now) x k) e.is
+      ∙ ap (λ (room : ℕ). run (context s) room q.ticks k q.state.now (held q.log.now) q.next) (sym (same_room e.went))
 
   -- not done: the run has ended
-  stays_there : {ending : Ending} → r.ending ≡ ending
-      → (let y = left ending r.ticks σ (entries m r.count) r.next in onward (context s) (room_in l) y k ≡ y)
-      → onward (context s) (room_in l) x k ≡ x
-  stays_there d there =
-      let same = e.is ∙ ap (λ (ending : Ending). left ending r.ticks σ (entries m r.count) r.next) d in
-      ap (λ (x : Left). onward (context s) (room_in l) x k) same ∙ there ∙ sym same
-
-  pub halts_onward : Halts r.ending → onward (context s) (room_in l) x k ≡ x
+  pub halts_onward : {h : Halt} → Ended s m t x (Err h) q → onward (context s) (room_of m.log.now) x k ≡ x
   unfolding onward left
-  halts_onward (refuses d) = stays_there d refl
-  halts_onward (stops d) = stays_there d refl
+  halts_onward e = ap (λ (x : Left). onward (context s) (room_of m.log.now) x k) e.is ∙ sym e.is
 
 -- ------------------------------------------------------------------------------------------------
--- A run that began earlier, from buffer l₀ of n₀ entries with t₀ ticks, and has come to here
+-- A run that began earlier, from machine m₀ with t₀ ticks, and has come to machine m with t
 
-pub record Came (s l₀ : List ℕ) (n₀ t₀ : ℕ) (whole : Left) (b : Block) (σ l : List ℕ) (n a t : ℕ) : Type 0 where
-  pub running : Running s σ l n a
-  pub went : Went l₀ n₀ l n
+pub record Came (s : List ℕ) (m₀ : Machine) (t₀ : ℕ) (whole : Left) (b : Block) (m : Machine) (t : ℕ) : Type 0 where
+  pub running : Running s m
+  pub went : Went m₀.log.now m.log.now
   pub fewer : t ≤ t₀
-  pub same : whole ≡ runs s σ l n a t b
+  pub same : whole ≡ runs s m t b
+  pub state : m.state.ghost_name ≡ m₀.state.ghost_name
+  pub log : m.log.ghost_name ≡ m₀.log.ghost_name
 
-pub came_first : {s σ l : List ℕ} {n a : ℕ} (t : ℕ) (b : Block) → Running s σ l n a → Came s l n t (runs s σ l n a t b) b σ l n a t
-came_first t b here = record { running = here; went = stays here; fewer = omega arith; same = refl }
+pub came_first : {s : List ℕ} {m : Machine} (t : ℕ) (b : Block) → Running s m → Came s m t (runs s m t b) b m t
+came_first t b here = record { running = here; went = stays here; fewer = omega arith; same = refl; state = refl; log = refl }
 
-module _ {s l₀ σ l : List ℕ} {n₀ t₀ n a t : ℕ} {whole : Left} {b : Block} (c : Came s l₀ n₀ t₀ whole b σ l n a t) where
+module _ {s : List ℕ} {m₀ m : Machine} {t₀ t : ℕ} {whole : Left} {b : Block} (c : Came s m₀ t₀ whole b m t) where
   -- what is run from here is what is left of the whole
-  pub comes_to_end : {r : Ran} {τ m : List ℕ} → Good s b → RunLeaves l (runs s σ l n a t b) r τ m → RunLeaves l₀ whole r τ m
-  comes_to_end {r} {τ} {m} good leaves =
-      let e = ended t c.running good leaves in
-      subst (λ (x : Left). RunLeaves l₀ x r τ m) (sym c.same)
+  pub comes_to_end : {r : Result ⊤ Halt} {q : Machine} → Good s b → RunLeaves m (runs s m t b) r q → RunLeaves m₀ whole r q
+  comes_to_end {r} {q} good leaves =
+      subst (λ (x : Left). RunLeaves m₀ x r q) (sym c.same)
       (record {
         is = leaves.is;
+        ticks = leaves.ticks;
+        next = leaves.next;
         state = leaves.state;
-        holds =
-            leaves.holds
-            ∙ over c.went _
-            (run_keeps s (λ x h. declared _ (c.running.records.variables x h)) (room_in l) t good.typed good.formed c.running.stands).grown;
+        log =
+            over c.went
+            (run_keeps s (λ x h. declared _ (c.running.records.variables x h)) (room_of m.log.now) t good.typed good.formed c.running.stands).grown
+            leaves.log;
+        same = leaves.same ∙ c.state;
+        same_log = leaves.same_log ∙ c.log;
       })
+
+-- a statement is begun: a tick is charged for it
+pub came_begun : {s : List ℕ} {m₀ m q : Machine} {t₀ : ℕ} {whole : Left} {b : Block} → Came s m₀ t₀ whole b m m.ticks → Begins m q
+    → Came s m₀ t₀ whole b q (suc q.ticks)
+came_begun {s} {m₀} {m} {q} {t₀} {whole} {b} c h =
+    let first = c.running in
+    let fewer = c.fewer in
+    let ticks = h.ticks in
+    record {
+      running = record { framed = first.framed; records = first.records; typing = first.typing; stands = rw (h.log, h.state, h.next) first.stands };
+      went = subst (λ (b : _). Went m₀.log.now b.now) (sym h.log) c.went;
+      fewer = omega arith;
+      same = c.same ∙ rw (h.log, h.state, h.next, ← h.ticks) refl;
+      state = ap (λ (b : _). b.ghost_name) h.state ∙ c.state;
+      log = ap (λ (b : _). b.ghost_name) h.log ∙ c.log;
+    }

@@ -3,6 +3,7 @@ use mathlib.Core.Path.{◌≡◌, refl, sym, ap, subst, ◌∙◌}
 use mathlib.Core.List.{List}
 use Prim.Native.Nat.{ℕ, suc, ◌+◌, ◌-◌, ◌≤◌, ◌<◌}
 use native.Mathlib.Omega.{arith}
+use Rattle.base.specs.declared.codes.Stop.TheVariants as Stops
 use Rattle.table.specs.Bytes.{header, statement}
 use Rattle.table.specs.Records.{RecordsHold}
 use Rattle.table.specs.Decode.{Context, context, expr, block_at}
@@ -25,7 +26,7 @@ record First (s : List ℕ) (i m : ℕ) : Type 0 where
   with_rest : Block → Block
   is : (l : ℕ) → block_at s i (suc l) ≡ with_rest (block_at s (suc i + m) (l - m))
   opens : (b k : Block) → (with_rest b then k) ≡ with_rest (b then k)
-  needs_tick : (Γ : Context) (room : ℕ) (σ : List ℕ) (L : Log) (a : ℕ) (b : Block) → run Γ room 0 (with_rest b) σ L a ≡ stop 35 i 0 σ L a
+  needs_tick : (Γ : Context) (room : ℕ) (σ : List ℕ) (L : Log) (a : ℕ) (b : Block) → run Γ room 0 (with_rest b) σ L a ≡ stop Stops.NoTick i 0 σ L a
 
 first_split : {s : List ℕ} {i m : ℕ} → First s i m → (l : ℕ) → block_at s i (suc l) ≡ (block_at s i (suc m) then block_at s (suc i + m) (l - m))
 unfolding ◌then◌
@@ -40,7 +41,7 @@ first_split {s} {i} {m} f l =
 module _ (s : List ℕ) (i : ℕ) (inside : i < (header s).statements) where
   -- without a body
   no_body : (f : Block → Block) → ((l : ℕ) → block_at s i (suc l) ≡ f (block_at s (suc i + 0) l)) → ((b k : Block) → (f b then k) ≡ f (b then k))
-      → ((Γ : Context) (room : ℕ) (σ : List ℕ) (L : Log) (a : ℕ) (b : Block) → run Γ room 0 (f b) σ L a ≡ stop 35 i 0 σ L a) → First s i 0
+      → ((Γ : Context) (room : ℕ) (σ : List ℕ) (L : Log) (a : ℕ) (b : Block) → run Γ room 0 (f b) σ L a ≡ stop Stops.NoTick i 0 σ L a) → First s i 0
   no_body f is opens tick = record {
     with_rest = f;
     is = λ l. let same : l ≡ l - 0 = omega arith in is l ∙ ap (λ (l : ℕ). f (block_at s (suc i + 0) l)) same;
@@ -95,7 +96,7 @@ module _ {s : List ℕ} (records : RecordsHold s) {i l : ℕ} (block : IsBlock s
   first = first_by s i here (block_reads records i (suc l) block)
 
   -- 35: "tick needed, none left"
-  pub no_tick : (room : ℕ) (σ : List ℕ) (L : Log) (a m : ℕ) → run (context s) room 0 (block_at s i (suc m)) σ L a ≡ stop 35 i 0 σ L a
+  pub no_tick : (room : ℕ) (σ : List ℕ) (L : Log) (a m : ℕ) → run (context s) room 0 (block_at s i (suc m)) σ L a ≡ stop Stops.NoTick i 0 σ L a
   no_tick room σ L a m =
       ap (λ (b : Block). run (context s) room 0 b σ L a) (first.is m) ∙ first.needs_tick (context s) room σ L a _
 

@@ -3,6 +3,7 @@ use mathlib.Core.Path.{◌≡◌, refl, sym, ap, ◌∙◌}
 use mathlib.Core.List.{List, []}
 use mathlib.Core.Option.{Option, none, some}
 use Prim.Native.Nat.{ℕ, zero, suc}
+use Rattle.base.specs.declared.codes.Stop.TheVariants as Stops
 use Rattle.value.specs.declared.Value.{Value}
 use Rattle.table.specs.Decode.{Context}
 use Rattle.table.specs.Syntax as S
@@ -12,6 +13,7 @@ use Rattle.memory.specs.Log.{Log}
 use Rattle.evaluation.specs.State.{moved}
 use Rattle.evaluation.specs.Evaluation as E
 use Rattle.evaluation.proofs.Formed.{FormedBlock, f_end, f_move, f_jmp, f_cpuexn, f_special, f_while, f_if}
+use Rattle.base.specs.declared.codes.Stop.{Stop}
 use Rattle.running.specs.declared.Ending.TheVariants.{Done, Refused, Stopped}
 use Rattle.running.specs.Run.{Left, left, stop, run, Guard, holds, fails, unsure, guard, target}
 use Rattle.effect.proofs.StandingLaws.{Good}
@@ -42,7 +44,7 @@ module _ (Γ : Context) (room : ℕ) where
   unfolding run
   onward x k = elim x.ending [
     | Done ↦ run Γ room x.remaining k x.state x.log x.next
-    | Refused code place ↦ x
+    | Refused refusal ↦ x
     | Stopped code statement ↦ x
   ]
 
@@ -73,7 +75,7 @@ module _ (Γ : Context) (room : ℕ) where
   step_jump k z f g none p q = p
   step_jump k z f g (some d) p q = q d
 
-  stop_stays : (code n t : ℕ) (σ : List ℕ) (L : Log) (a : ℕ) (k : Block) → stop code n t σ L a ≡ onward (stop code n t σ L a) k
+  stop_stays : (code : Stop) (n t : ℕ) (σ : List ℕ) (L : Log) (a : ℕ) (k : Block) → stop code n t σ L a ≡ onward (stop code n t σ L a) k
   unfolding onward stop left
   stop_stays code n t σ L a k = refl
 
@@ -91,22 +93,22 @@ module _ (Γ : Context) (room : ℕ) where
       step n t a σ k (λ v M. run Γ room t (r then k) (moved σ x v) M a) (λ v M. run Γ room t r (moved σ x v) M a) (E.eval Γ room σ e [] L)
       (λ v M. run_then t r k (moved σ x v) M a)
   run_then (suc t) (S.jmp n e r) k σ L a =
-      step n t a σ k (λ v M. to (stop 33 n t σ M a) (λ d. run Γ room t (r then k) σ M d) (target v))
-      (λ v M. to (stop 33 n t σ M a) (λ d. run Γ room t r σ M d) (target v)) (E.eval Γ room σ e [] L)
-      (λ v M. step_jump k (stop 33 n t σ M a) (λ d. run Γ room t (r then k) σ M d) (λ d. run Γ room t r σ M d) (target v) refl (λ d. run_then t r k σ M d))
+      step n t a σ k (λ v M. to (stop Stops.JumpUnknown n t σ M a) (λ d. run Γ room t (r then k) σ M d) (target v))
+      (λ v M. to (stop Stops.JumpUnknown n t σ M a) (λ d. run Γ room t r σ M d) (target v)) (E.eval Γ room σ e [] L)
+      (λ v M. step_jump k (stop Stops.JumpUnknown n t σ M a) (λ d. run Γ room t (r then k) σ M d) (λ d. run Γ room t r σ M d) (target v) refl (λ d. run_then t r k σ M d))
   run_then (suc t) (S.cpuexn n r) k σ L a = run_then t r k σ L a
   run_then (suc t) (S.special n r) k σ L a = run_then t r k σ L a
   run_then (suc t) (S.while n e b r) k σ L a =
       step n t a σ k
-      (λ v M. by (run Γ room t (b then S.while n e b (r then k)) σ M a) (run Γ room t (r then k) σ M a) (stop 32 n t σ M a) (guard v))
-      (λ v M. by (run Γ room t (b then S.while n e b r) σ M a) (run Γ room t r σ M a) (stop 32 n t σ M a) (guard v)) (E.eval Γ room σ e [] L)
+      (λ v M. by (run Γ room t (b then S.while n e b (r then k)) σ M a) (run Γ room t (r then k) σ M a) (stop Stops.GuardUnknown n t σ M a) (guard v))
+      (λ v M. by (run Γ room t (b then S.while n e b r) σ M a) (run Γ room t r σ M a) (stop Stops.GuardUnknown n t σ M a) (guard v)) (E.eval Γ room σ e [] L)
       (λ v M. step_guard k _ _ _ _ _ (guard v)
       (ap (λ (b : Block). run Γ room t b σ M a) (sym (then_then b (S.while n e b r) k)) ∙ run_then t (b then S.while n e b r) k σ M a)
       (run_then t r k σ M a) refl)
   run_then (suc t) (S.if n e b c r) k σ L a =
       step n t a σ k
-      (λ v M. by (run Γ room t (b then (r then k)) σ M a) (run Γ room t (c then (r then k)) σ M a) (stop 32 n t σ M a) (guard v))
-      (λ v M. by (run Γ room t (b then r) σ M a) (run Γ room t (c then r) σ M a) (stop 32 n t σ M a) (guard v)) (E.eval Γ room σ e [] L)
+      (λ v M. by (run Γ room t (b then (r then k)) σ M a) (run Γ room t (c then (r then k)) σ M a) (stop Stops.GuardUnknown n t σ M a) (guard v))
+      (λ v M. by (run Γ room t (b then r) σ M a) (run Γ room t (c then r) σ M a) (stop Stops.GuardUnknown n t σ M a) (guard v)) (E.eval Γ room σ e [] L)
       (λ v M. step_guard k _ _ _ _ _ (guard v)
       (ap (λ (b : Block). run Γ room t b σ M a) (sym (then_then b r k)) ∙ run_then t (b then r) k σ M a)
       (ap (λ (b : Block). run Γ room t b σ M a) (sym (then_then c r k)) ∙ run_then t (c then r) k σ M a) refl)

@@ -2,21 +2,23 @@
 use mathlib.Core.Path.{◌≡◌, refl, ap, sym, subst, ◌∙◌}
 use mathlib.Core.Bool.{Bool, true, false}
 use mathlib.Core.List.{List, [], ◌∷◌, ◌++◌}
-use Prim.Native.Nat.{ℕ, zero, suc, ◌+◌, ◌-◌, ◌*◌, ◌^◌, ◌≤◌, ◌<◌}
+use Prim.Native.Nat.{ℕ, suc, ◌+◌, ◌-◌, ◌^◌, ◌≤◌, ◌<◌}
 use native.Mathlib.Numerals.{add-one}
 use native.Mathlib.Omega.{arith}
 use lib.Dec.{eqb}
-use lib.ListN.{length, get_or, set, replicate, length-set, length-replicate}
+use lib.ListN.{length, get_or, set, length-set}
 use lib.Seq.{get_or-set_same, get_or-set_other}
 use borrow.Author.Tests.{eqb-true, eqb-false}
 use Rattle.std.specs.Prelude.{if◌then◌else◌}
+use Rattle.base.specs.declared.codes.Code.TheVariants as Codes
 use Rattle.base.specs.Refusals.{refusal}
 use Rattle.table.specs.declared.Header.{Header}
 use Rattle.table.specs.Bytes.{header}
 use Rattle.forest.specs.declared.operands.Operands.{Operands}
 use Rattle.forest.specs.declared.operands.Operands.TheVariants.{Leaf, One, Two, Three}
 use Rattle.forest.specs.Forest.{how_often, over, operands_of, expressions_of, uses, use_rule}
-use Rattle.forest.specs.Counting.{listed, AllBelow, Counted, Counters, count_rule}
+use Rattle.forest.specs.Counting.{listed, AllBelow, Counted, CountedBy, Counters, count_rule}
+use Rattle.forest.proofs.OperandLaws.{first_below, rest_below}
 
 -- ------------------------------------------------------------------------------------------------
 -- How often a number stands in a list
@@ -68,64 +70,67 @@ counters_on {ks = ks} n most f small =
     record { each = λ k. omega (arith, most.each k, f.each k, how_often-length k ks) }
 
 -- ------------------------------------------------------------------------------------------------
--- Counting by record
+-- Operand by operand
 
--- the operands of the first i records are counted, in counters that were at most m
-pub record SoFar (named : ℕ → List ℕ) (m : ℕ) (first counts : List ℕ) (i : ℕ) : Type 0 where
-  pub counted : Counted first counts (over named i)
-  pub most : Counters (m + 3 * i) counts
+-- of operands to be counted some are left, each with a counter that has room for all of them
+pub record Noted (first all left counts : List ℕ) : Type 0 where
+  pub below : AllBelow (length counts) left
+  pub room : Counters (2 ^ 16 - 1 - length left) counts
+  pub few : length left ≤ 3
+  pub whole : (after : List ℕ) → Counted counts after left → Counted first after all
 
-pub none_yet : {named : ℕ → List ℕ} {m : ℕ} {first : List ℕ} → Counters m first → SoFar named m first first 0
-unfolding over
-none_yet {m = m} h = record { counted = counted_none; most = counters_on (m + 3 * 0) h counted_none (omega arith) }
+pub note_first :
+    {o it : Operands} {l : List ℕ} → it ≡ o → AllBelow (length l) (listed o) → Counters (2 ^ 16 - 4) l → Noted l (listed o) (listed it) l
+note_first {o} {it} {l} is below most =
+    let few = at_most_three o in
+    rw is
+    record { below = below; room = record { each = λ k. omega (arith, most.each k) }; few = few; whole = λ after c. c }
 
-one_more :
-    {named : ℕ → List ℕ} {m : ℕ} {first a b : List ℕ} (i : ℕ) (o : Operands) → SoFar named m first a i → Counted a b (listed o)
-    → listed o ≡ named i → SoFar named m first b (i + 1)
-unfolding over
-one_more {named} {m} {first} {a} {b} i o so c is =
-    let short = at_most_three o in
+pub note_next :
+    {first all left counts : List ℕ} {k : ℕ} {rest : List ℕ} → Noted first all left counts → left ≡ k ∷ rest
+    → Noted first all rest (set counts k (get_or counts k 0 + 1))
+note_next {first} {all} {left} {counts} {k} {rest} so is =
+    let below = subst (AllBelow (length counts)) is so.below in
+    let long = ap length is in
+    let few = so.few in
+    let one = counted_one counts k (first_below below) in
     record {
-      counted = rw (add-one i, over, ← is) (counted_then so.counted c);
-      most = counters_on (m + 3 * (i + 1)) so.most c (omega arith);
+      below = rw one.long (rest_below below);
+      room = counters_on (2 ^ 16 - 1 - length rest) so.room one (omega arith);
+      few = omega arith;
+      whole = λ after c. so.whole after (subst (λ (left : List ℕ). Counted counts after left) (sym is) (counted_then one c));
     }
 
--- a turn of the loop: what it asks to note the operands o of record i, and what is counted then
-pub record Turn (named : ℕ → List ℕ) (m : ℕ) (first counts : List ℕ) (i : ℕ) (o : Operands) : Type 0 where
-  pub asks : AllBelow (length counts) (listed o) × Counters (2 ^ 16 - 4) counts
-  pub on : {after : List ℕ} → Counted counts after (listed o) → SoFar named m first after (i + 1)
+pub note_last : {first all left counts : List ℕ} → Noted first all left counts → left ≡ [] → Counted first counts all
+note_last {first} {all} {left} {counts} so is = so.whole counts (subst (λ (left : List ℕ). Counted counts counts left) (sym is) counted_none)
 
-pub turn :
-    {named : ℕ → List ℕ} {m : ℕ} {first counts : List ℕ} {i : ℕ} (o : Operands) → SoFar named m first counts i → listed o ≡ named i
-    → AllBelow (length first) (listed o) → m + 3 * i ≤ 2 ^ 16 - 4 → Turn named m first counts i o
-turn {i = i} o so is below small =
-    record {
-      asks = (
-        subst (λ (n : ℕ). AllBelow n (listed o)) (sym so.counted.long) below,
-        counters_on (2 ^ 16 - 4) so.most counted_none (omega arith),
-      );
-      on = λ c. one_more i o so c is;
-    }
+pub note_room : {first all left counts : List ℕ} {k : ℕ} {rest : List ℕ} → Noted first all left counts → left ≡ k ∷ rest → get_or counts k 0 + 1 < 2 ^ 16
+note_room {k = k} so is = let long = ap length is in let few = so.few in omega (arith, so.room.each k)
 
-pub all_counted : {named : ℕ → List ℕ} {m : ℕ} {first counts : List ℕ} {i n : ℕ} → SoFar named m first counts i → i ≡ n
-    → Counted first counts (over named n)
-all_counted {named} {first = first} {counts} so all = subst (λ (k : ℕ). Counted first counts (over named k)) all so.counted
+pub note_place : {first all left counts : List ℕ} {k : ℕ} {rest : List ℕ} → Noted first all left counts → left ≡ k ∷ rest → k < length counts
+note_place {counts = counts} so is = first_below (subst (AllBelow (length counts)) is so.below)
 
 -- ------------------------------------------------------------------------------------------------
--- What the counters say in the beginning and in the end
+-- Record by record
 
--- a local array of n zeros: n counters, none over 0
-pub record Zeros (n : ℕ) : Type 0 where
-  pub long : length {A = ℕ} (replicate n 0) ≡ n
-  pub each : (k : ℕ) → get_or (replicate n 0) k 0 ≤ 0
+pub count_none : {gives : ℕ → Operands → Type 0} {l : List ℕ} → CountedBy gives 0 l l
+unfolding over
+count_none = record { all = λ named is. counted_none; few = λ k. omega arith }
 
-each_zero : (n k : ℕ) → get_or (replicate n 0) k 0 ≤ 0
-each_zero zero k = omega arith
-each_zero (suc n) zero = omega arith
-each_zero (suc n) (suc k) = each_zero n k
+pub count_one :
+    {gives : ℕ → Operands → Type 0} {i : ℕ} {first a b : List ℕ} (o : Operands) → CountedBy gives i first a → gives i o → Counted a b (listed o)
+    → CountedBy gives (i + 1) first b
+unfolding over
+count_one {gives} {i} {first} {a} {b} o so given c =
+    record {
+      all = λ named is.
+          rw (add-one i, over, ← is i o (omega arith) given)
+          (counted_then (so.all named (λ j o h. is j o (omega arith))) c);
+      few = λ k. let short = at_most_three o in omega (arith, so.few k, c.each k, how_often-length k (listed o));
+    }
 
-pub zeros_of : (n : ℕ) → Zeros n
-zeros_of n = record { long = length-replicate {A = ℕ} n 0; each = each_zero n }
+-- ------------------------------------------------------------------------------------------------
+-- What the counters say in the end
 
 -- counters of all uses, expressions' and then statements', tell whether refusal 8 comes
 pub counted_refusal :
@@ -134,7 +139,7 @@ pub counted_refusal :
 unfolding use_rule uses
 counted_refusal s h is {z} {a} {b} start p q =
     ap (λ (h : Header). refusal (count_rule b h.expressions ∷ [])) is
-    ∙ ap (λ (f : ℕ → ℕ). refusal (record { code = 8; places = (header s).expressions; holds = λ i. eqb (f i) 1 } ∷ [])) (λ i k. each k i)
+    ∙ ap (λ (f : ℕ → ℕ). refusal (record { code = Codes.Uses; places = (header s).expressions; holds = λ i. eqb (f i) 1 } ∷ [])) (λ i k. each k i)
   where
     all : Header → List ℕ
     all h = over (operands_of s) h.expressions ++ over (expressions_of s) h.statements

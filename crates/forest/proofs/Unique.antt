@@ -3,7 +3,10 @@ use mathlib.Core.Path.{◌≡◌, refl, ap, sym, ◌∙◌}
 use mathlib.Core.List.{List, [], ◌∷◌}
 use Prim.Native.Nat.{ℕ}
 use contract.Lifetimes.{Lfts}
-use Rattle.base.specs.OneAnswer.{OneAnswer}
+use Rattle.std.specs.Iterator.{YieldsFirst}
+use Rattle.std.specs.Prelude.{Option, Some, None}
+use Rattle.base.specs.OneAnswer.{OneAnswer, OneOutcome}
+use Rattle.base.proofs.BoolLaws.{impossible}
 use Rattle.base.proofs.Unique.{is_unique}
 use Rattle.forest.specs.declared.operands.Operands.{Operands}
 use Rattle.forest.specs.declared.operands.Operands.TheVariants.{Leaf, One, Two, Three}
@@ -32,7 +35,20 @@ pub operands_unique :
     × OneAnswer (forest.operands.of_statement.Reads.Post tt)
 operands_unique = (λ a x y s t. listed_unique _ x y, λ a x y s t. listed_unique _ x y)
 
-pub checks_unique : (lent : Lfts 1) →
+-- the first operand, and those that follow it
+first_unique :
+    (o : Operands) (x y : Option ℕ) (p q : Operands) → YieldsFirst listed o x p → YieldsFirst listed o y q → (x ≡ y) × (p ≡ q)
+first_unique o None None p q h k = (refl, listed_unique [] p q h.1 k.1)
+first_unique o None (Some b) p q h k = impossible (cc)
+first_unique o (Some a) None p q h k = impossible (cc)
+first_unique o (Some a) (Some b) p q h k =
+    let same : a ∷ listed p ≡ b ∷ listed q = sym h ∙ k in
+    (cc, listed_unique (listed q) p q (cc) refl)
+
+pub next_unique : (lent : Lfts 1) → OneOutcome (forest.operands.OperandsIterator.next.Reads.Post lent) (λ s. s.0.now)
+next_unique lent a x y s t p q = first_unique a.0.now x y s.0.now t.0.now p.0 q.0
+
+pub checks_unique : (lent : Lfts 2) →
     OneAnswer (forest.uses.uses_once.Reads.Post lent)
     × OneAnswer (forest.depth.depths_ok.Reads.Post lent)
     × OneAnswer (forest.nesting.nestings_ok.Reads.Post lent)

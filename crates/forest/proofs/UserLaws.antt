@@ -5,8 +5,7 @@ use Prim.Native.Nat.{ℕ, zero, suc, ◌+◌, ◌-◌, ◌≤◌, ◌<◌}
 use native.Mathlib.Decide.{dec_lt}
 use native.Mathlib.Omega.{arith}
 use borrow.Author.Tests.{eqb-true}
-use Rattle.base.specs.declared.Answer.TheVariants.{Accepted}
-use Rattle.base.specs.Refusals.{one_more, no_rule, refusal}
+use Rattle.base.specs.Refusals.{Accepted, one_more, no_rule, refusal}
 use Rattle.base.proofs.RefusalLaws.{accepted_iff, first_holds}
 use Rattle.table.specs.Bytes.{header}
 use Rattle.table.specs.Records.{RecordsHold}

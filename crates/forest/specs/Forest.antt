@@ -2,6 +2,7 @@
 use Rattle.std.specs.Prelude.{Bool, true, false, not, ◌&&◌, ◌||◌, ℕ, zero, suc, ◌+◌, max, leb, eqb, length, get_or}
 use mathlib.Core.List.{List, [], ◌∷◌, ◌++◌, map, flat_map}
 use Rattle.std.specs.Prelude.{if◌then◌else◌}
+use Rattle.base.specs.declared.codes.Code.TheVariants as Codes
 use Rattle.base.specs.Course.{up_to}
 use Rattle.base.specs.Refusals.{Rule}
 use Rattle.table.specs.Bytes.{header, variable, expression, statement}
@@ -91,20 +92,20 @@ in_scope s i =
 
 unfoldable pub use_rule : List ℕ → Rule
 unfolding how_often uses header
-use_rule s = record { code = 8; places = (header s).expressions; holds = λ i. eqb (how_often i (uses s)) 1 }
+use_rule s = record { code = Codes.Uses; places = (header s).expressions; holds = λ i. eqb (how_often i (uses s)) 1 }
 
 unfoldable pub depth_rule : List ℕ → Rule
 unfolding depths header
 depth_rule s =
-    record { code = 9; places = (header s).expressions; holds = λ i. leb (get_or (depths s (header s).expressions) i 0) most_depth }
+    record { code = Codes.Depth; places = (header s).expressions; holds = λ i. leb (get_or (depths s (header s).expressions) i 0) most_depth }
 
 unfoldable pub nesting_rule : List ℕ → Rule
 unfolding nesting header
-nesting_rule s = record { code = 10; places = (header s).statements; holds = λ i. leb (nesting s i) most_nesting }
+nesting_rule s = record { code = Codes.Nesting; places = (header s).statements; holds = λ i. leb (nesting s i) most_nesting }
 
 unfoldable pub scope_rule : List ℕ → Rule
 unfolding in_scope header
-scope_rule s = record { code = 11; places = (header s).expressions; holds = in_scope s }
+scope_rule s = record { code = Codes.Scope; places = (header s).expressions; holds = in_scope s }
 
 unfoldable pub forest_rules : List ℕ → List Rule
 unfolding use_rule depth_rule nesting_rule scope_rule

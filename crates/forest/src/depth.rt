@@ -1,83 +1,52 @@
 // Refusal 9: "A leaf has depth 1, another node one more than its deepest operand; at most 64."
 ghost use Rattle.std.specs.Prelude.{◌≡◌, [], ◌∷◌, map, max, ◌≤◌, ◌<◌, length, get_or};
 ghost use Rattle.base.specs.Refusals.{refusal};
-ghost use Rattle.table.specs.Records.{Framed, RecordsHold};
 ghost use Rattle.forest.specs.Forest.{largest, depth_rule};
 ghost use Rattle.forest.specs.Counting.{listed, AllBelow};
 
 use crate::operands;
 use crate::operands::Operands;
-use base::{Answer, codes};
-use table::framing::MOST_EXPRESSIONS;
-use table::{Header, bytes};
+use base::codes::Code;
+use base::{Answer, Refusal};
+use blocks::room::with_zeros;
+use table::read::Table;
 
 const MOST_DEPTH: u16 = 64;
 
-fn larger(x: u16, y: u16) -> u16
-    ensures { result ≡ max x y }
+// The largest depth that was kept of an expression's operands, 0 where there are none.
+#[tactic(auto, using(crate::proofs::DepthLaws::deepest_next, crate::proofs::DepthLaws::deepest_all))]
+fn deepest(depths: &[u16], operands: Operands) -> u16
+    requires { AllBelow (length depths.now) (listed operands) }
+    ensures { result ≡ largest (map (λ k. get_or depths.now k 0) (listed operands)) }
 {
-    if x <= y { y } else { x }
-}
-
-// The depth that was kept of an expression.
-fn kept(depths: &[u16], k: u32) -> u16
-    requires { k < length depths.now }
-    ensures { result ≡ get_or depths.now k 0 }
-{
-    let at = k as usize;
-    depths[at]
-}
-
-// The largest depth of an expression's operands, 0 where there are none.
-fn deepest(depths: &[u16], o: Operands) -> u16
-    requires { AllBelow (length depths.now) (listed o) }
-    ensures { result ≡ largest (map (λ k. get_or depths.now k 0) (listed o)) }
-{
-    match o {
-        Operands::Leaf => 0,
-        Operands::One(a) => kept(depths, a),
-        Operands::Two(a, b) => larger(kept(depths, a), kept(depths, b)),
-        Operands::Three(a, b, c) => larger(
-            kept(depths, a),
-            larger(kept(depths, b), kept(depths, c)),
-        ),
+    let mut deepest = 0;
+    for k in operands {
+        deepest = depths[k as usize].max(deepest);
     }
+    deepest
 }
 
 // Refusal 9, with places to keep the depths, one for each expression or more.
-fn depths_in(s: &[u8], h: Header, depths: &mut [u16]) -> Answer
-    requires framed { Framed s.now h }
-    requires records_hold { RecordsHold s.now }
-    requires expressions_in_bounds { h.expressions ≤ length depths.old }
-    ensures { result ≡ refusal (depth_rule s.now ∷ []) }
+fn depths_in(table: &Table, depths: &mut [u16]) -> Answer
+    requires expressions_in_bounds { table.now.frame.header.expressions ≤ length depths.old }
+    ensures { result ≡ refusal (depth_rule table.now.frame.bytes.now ∷ []) }
 {
-    let n = h.expressions as usize;
-    let mut i = 0;
-    while i < n {
-        let d = deepest(depths, operands::of_expression(bytes::expression(s, h, i)));
+    for i in 0..table.frame.header.expressions {
+        let d = deepest(depths, operands::of_expression(table.frame.expression(i)));
         if MOST_DEPTH <= d {
-            return Answer::Refused(codes::DEPTH, i as u32);
+            return Err(Refusal {
+                code: Code::Depth,
+                place: i,
+            });
         }
-        depths[i] = d + 1;
-        i += 1;
+        depths[i as usize] = d + 1;
     }
-    Answer::Accepted
+    Ok(())
 }
 
-// Refusal 9 at the lowest expression that is deeper than 64. A small table gets a small array, since all of it is zeroed.
-pub fn depths_ok(s: &[u8], h: Header) -> Answer
-    requires framed { Framed s.now h }
-    requires records_hold { RecordsHold s.now }
-    ensures { result ≡ refusal (depth_rule s.now ∷ []) }
+// Refusal 9 at the lowest expression that is deeper than 64.
+pub fn depths_ok(table: &Table) -> Answer
+    ensures { result ≡ refusal (depth_rule table.now.frame.bytes.now ∷ []) }
 {
-    if h.expressions <= 64 {
-        let mut depths = [0u16; 64];
-        return depths_in(s, h, &mut depths[..]);
-    }
-    if h.expressions <= 1024 {
-        let mut depths = [0u16; 1024];
-        return depths_in(s, h, &mut depths[..]);
-    }
-    let mut depths = [0u16; MOST_EXPRESSIONS as usize];
-    depths_in(s, h, &mut depths[..])
+    with_zeros(table.frame.header.expressions, table, depths_in)
 }

@@ -1,9 +1,9 @@
 -- A memory with an address of its width, by what the two are. Assumes nothing.
-use Rattle.std.proofs.Common.{◌≡◌, ℕ, ◌≤◌, Bool, length, sym, ap, ◌∙◌, subst}
+use Rattle.std.proofs.Common.{◌≡◌, ℕ, ◌≤◌, Bool, length, sym, refl, ap, ◌∙◌, subst}
 use Rattle.word.specs.Words.{IsWord}
 use Rattle.value.specs.declared.ValueType.TheVariants.{Imm, Mem}
 use Rattle.value.specs.declared.Value.{Value}
-use Rattle.value.specs.declared.Value.TheVariants.{Word, Memory}
+use Rattle.value.specs.declared.Value.TheVariants.{Word, Unknown, Memory}
 use Rattle.value.specs.Values.{Sound, Yields, type_of, size}
 use Rattle.table.specs.Asked.{SizeOk}
 use Rattle.memory.specs.Log.{Log}
@@ -37,6 +37,18 @@ module _ {L : Log} {w x : ℕ} {m a : Value} (h : Addressed L m a) (is_word : a 
 -- What a load promises
 
 module _ (L : Log) (z : ℕ) (big : Bool) (m a : Value) where
+  -- where the two aren't a memory and a word
+  pub load_unknown : ((w head v x : ℕ) → m ≡ Memory w head → a ≡ Word v x → ⊥) → Unknown (Imm z) ≡ load L z big m a
+  unfolding load
+  load_unknown never = go m a never
+    where
+      go : (m a : Value) → ((w head v x : ℕ) → m ≡ Memory w head → a ≡ Word v x → ⊥) → Unknown (Imm z) ≡ load L z big m a
+      go (Memory w head) (Word v x) never = absurd (never w head v x refl refl)
+      go (Memory w head) (Unknown t) never = refl
+      go (Memory w head) (Memory v h) never = refl
+      go (Unknown t) a never = refl
+      go (Word w x) a never = refl
+
   pub load_yields : {r : Value} → SizeOk z → r ≡ load L z big m a → Yields (Imm z) (load L z big m a) r
   load_yields s e =
       let has = has_load L big m a s in

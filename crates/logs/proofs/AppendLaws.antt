@@ -1,78 +1,116 @@
 -- Bytes appended one after the other to the log that a buffer holds. Assumes nothing.
-use Rattle.std.proofs.Common.{◌≡◌, ℕ, suc, ◌+◌, ◌*◌, ◌<◌, ◌≤◌, Bool, List, [], ◌∷◌, length, get_or, drop, sym, refl, ap, ◌∙◌, arith, drop_of_length-le, drop-cons, le-ltb, lt-ltb}
+use Rattle.std.proofs.Common.{◌≡◌, ℕ, suc, ◌+◌, ◌*◌, ◌/◌, ◌<◌, ◌≤◌, Bool, true, false, List, ◌∷◌, length, get_or, drop, sym, refl, ap, subst, ◌∙◌, arith, drop_of_length-le, drop-cons, le-ltb, lt-ltb}
 use lib.Seq.{sets}
-use Rattle.value.specs.declared.ValueType.{ValueType}
+use Rattle.std.specs.Prelude.{Result, Ok, Err}
+use Rattle.std.specs.Result.{IsErr}
+use Rattle.base.proofs.BoolLaws.{impossible}
 use Rattle.value.specs.declared.Value.{Value}
 use Rattle.value.specs.declared.Value.TheVariants.{Word, Unknown, Memory}
 use Rattle.value.specs.Values.{type_of, size}
-use Rattle.memory.specs.Log.{Log, entry_size, entries, holding}
-use Rattle.memory.specs.Access.{Stored, stored, full, append, store, bytes_in, head_of, succ}
+use Rattle.memory.specs.declared.Full.{Full}
+use Rattle.memory.specs.declared.LogBuffer.{LogBuffer}
+use Rattle.memory.specs.Log.{Log, entry_size, fields_of}
+use Rattle.memory.specs.Buffer.{held, room_of, Becomes, Pushed}
+use Rattle.memory.specs.Access as Access
+use Rattle.memory.specs.Access.{Stored, stored, append, store, bytes_in, head_of, succ}
 use Rattle.memory.proofs.LogLaws.{length-entries, length-holding}
 use Rattle.memory.proofs.AccessLaws.{entry, append_fits, append_full}
-use Rattle.logs.specs.declared.store.Stored.TheVariants.{Done, Full}
 use Rattle.logs.specs.Storing.{Leaves, answer, log_in}
 use Rattle.logs.proofs.HoldingLaws.{holding_entries, holding_newer}
 
--- of a store x of these bytes into buffer l, i were appended: the buffer is m, and the bytes to come, appended to the log that it
--- holds, make x
-pub record Appending (l : List ℕ) (room w : ℕ) (bytes : List ℕ) (x : Stored) (m : List ℕ) (used newest at i : ℕ) : Type 0 where
-  pub log : Log
-  pub many : length log ≡ used
-  pub fits : entry_size * used ≤ length l
-  pub holds : m ≡ holding l log
-  pub makes : x ≡ append room w (drop i bytes) newest at log
+-- a buffer becomes what it is
+pub becomes_same : (b : LogBuffer) → entry_size * b.count ≤ length b.numbers.now → Becomes b (held b) b
+becomes_same b h = record {
+  count = sym (length-entries b.numbers.now b.count);
+  holds = sym (holding_entries b.numbers.now b.count h);
+  same = refl;
+}
 
-pub appending_starts : (l : List ℕ) (room w : ℕ) (bytes : List ℕ) (head a count : ℕ) → entry_size * count ≤ length l
-    → Appending l room w bytes (append room w bytes head a (entries l count)) l count head a 0
-appending_starts l room w bytes head a count h =
-    record { log = entries l count; many = length-entries l count; fits = h; holds = sym (holding_entries l count h); makes = refl }
+-- of a store x of these bytes into buffer b, i were appended: the buffer is c, and the bytes to come, appended to the log that it
+-- holds, make x
+pub record Appending (b : LogBuffer) (w : ℕ) (bytes : List ℕ) (x : Stored) (c : LogBuffer) (newest at i : ℕ) : Type 0 where
+  pub log : Log
+  pub becomes : Becomes b log c
+  pub fits : entry_size * c.count ≤ length b.numbers.now
+  pub makes : x ≡ append (room_of b) w (drop i bytes) newest at log
+
+pub appending_starts : (b : LogBuffer) (w : ℕ) (bytes : List ℕ) (head a : ℕ) → entry_size * b.count ≤ length b.numbers.now
+    → Appending b w bytes (append (room_of b) w bytes head a (held b)) b head a 0
+appending_starts b w bytes head a h = record { log = held b; becomes = becomes_same b h; fits = h; makes = refl }
+
+-- there is one refusal
+is_full : (r : Result Value Full) → IsErr r → r ≡ Err (record {})
+is_full (Ok v) h = let e : false ≡ true = h in impossible (cc)
+is_full (Err f) h = refl
 
 -- a store that ended in a log
-leaves_log : {l m : List ℕ} {L : Log} (x y : Stored) → x ≡ y → m ≡ holding l L → log_in y ≡ L → Leaves l x (answer y) m
-leaves_log {l} x y e h k = record { is = ap answer (sym e); holds = h ∙ ap (holding l) (sym (ap log_in e ∙ k)) }
+leaves_log : {b c : LogBuffer} (x y : Stored) → x ≡ y → Becomes b (log_in y) c → Leaves b x (answer y) c
+leaves_log {b} {c} x y e h = record { is = ap answer (sym e); log = subst (λ (y : Stored). Becomes b (log_in y) c) (sym e) h }
 
-module _ (l : List ℕ) (room w : ℕ) (bytes : List ℕ) (x : Stored) {m : List ℕ} {used newest at i : ℕ}
-    (p : Appending l room w bytes x m used newest at i) where
-  pub appending_long : length m ≡ length l
-  appending_long = let n = p.many in let f = p.fits in ap length p.holds ∙ length-holding l p.log (omega arith)
+module _ (b : LogBuffer) (w : ℕ) (bytes : List ℕ) (x : Stored) {c : LogBuffer} {newest at i : ℕ} (p : Appending b w bytes x c newest at i) where
+  pub appending_long : length c.numbers.now ≡ length b.numbers.now
+  appending_long =
+      let n = p.becomes.count in
+      let f = p.fits in
+      ap length p.becomes.holds ∙ length-holding b.numbers.now p.log (omega arith)
+
+  pub appending_room : entry_size * c.count ≤ length c.numbers.now
+  appending_room =
+      let n = appending_long in
+      let f = p.fits in
+      omega arith
+
+  same_room : room_of c ≡ room_of b
+  same_room = ap (λ (n : ℕ). n / entry_size) appending_long
 
   -- the byte to come
-  next : i < length bytes → x ≡ append room w (get_or bytes i 0 ∷ drop (suc i) bytes) newest at p.log
-  next k = p.makes ∙ ap (λ (more : List ℕ). append room w more newest at p.log) (drop-cons bytes i 0 k)
+  next : i < length bytes → x ≡ append (room_of b) w (get_or bytes i 0 ∷ drop (suc i) bytes) newest at p.log
+  next k = p.makes ∙ ap (λ (more : List ℕ). append (room_of b) w more newest at p.log) (drop-cons bytes i 0 k)
 
-  pub appending_stops : i < length bytes → room ≤ used → Leaves l x (Full used) m
-  appending_stops k h =
-      let n = p.many in
-      let e = next k ∙ append_full room w (get_or bytes i 0) (drop (suc i) bytes) newest at p.log (le-ltb (length p.log) room (omega arith)) in
-      rw n at (leaves_log x (full p.log) e p.holds refl)
+  module _ (k : i < length bytes) {byte : ℕ} (is : byte ≡ get_or bytes i 0) {d : LogBuffer} where
+    pub appending_stops : {r : Result Value Full} → (room_of c ≤ c.count) × (d ≡ c) → IsErr r → Leaves b x r d
+    appending_stops {r} h e =
+        let n = p.becomes.count in
+        let s = same_room in
+        let none = next k ∙ append_full (room_of b) w (get_or bytes i 0) (drop (suc i) bytes) newest at p.log (le-ltb (length p.log) (room_of b) (omega arith)) in
+        rw (is_full r e, h.1) (leaves_log x (Access.full p.log) none p.becomes)
 
-  pub appending_on : i < length bytes → used < room → entry_size * room ≤ length l
-      → Appending l room w bytes x (sets m (entry_size * used) (newest ∷ w ∷ at ∷ get_or bytes i 0 ∷ [])) (used + 1) (used + 1) (succ w at) (i + 1)
-  appending_on k h r =
-      let n = p.many in
-      let new = entry w newest at (get_or bytes i 0) in
-      let one : suc (length p.log) ≡ used + 1 = omega arith in
-      let step : suc i ≡ i + 1 = omega arith in
-      record {
-        log = new ∷ p.log;
-        many = one;
-        fits = omega arith;
-        holds =
-            ap (λ (q : ℕ). sets m (entry_size * q) (newest ∷ w ∷ at ∷ get_or bytes i 0 ∷ [])) (sym n)
-            ∙ ap (λ (q : List ℕ). sets q (entry_size * length p.log) (newest ∷ w ∷ at ∷ get_or bytes i 0 ∷ [])) p.holds
-            ∙ holding_newer l p.log new (omega arith);
-        makes =
-            next k
-            ∙ append_fits room w (get_or bytes i 0) (drop (suc i) bytes) newest at p.log (lt-ltb (length p.log) room (omega arith))
-            ∙ ap (λ (q : ℕ). append room w (drop (suc i) bytes) q (succ w at) (new ∷ p.log)) one
-            ∙ ap (λ (q : ℕ). append room w (drop q bytes) (used + 1) (succ w at) (new ∷ p.log)) step;
-      }
+    pub appending_on : (c.count < room_of c) × Pushed c (entry w newest at byte) d → Appending b w bytes x d d.count (succ w at) (i + 1)
+    appending_on h =
+        let free = h.0 in
+        let count = h.1.count in
+        let n = p.becomes.count in
+        let f = p.fits in
+        let s = same_room in
+        let long = appending_long in
+        let new = entry w newest at (get_or bytes i 0) in
+        let one : suc (length p.log) ≡ d.count = omega arith in
+        let step : suc i ≡ i + 1 = omega arith in
+        record {
+          log = new ∷ p.log;
+          becomes = record {
+            count = sym one;
+            holds =
+                h.1.numbers
+                ∙ ap (λ (byte : ℕ). sets c.numbers.now (entry_size * c.count) (fields_of (entry w newest at byte))) is
+                ∙ ap (λ (q : ℕ). sets c.numbers.now (entry_size * q) (fields_of new)) n
+                ∙ ap (λ (q : List ℕ). sets q (entry_size * length p.log) (fields_of new)) p.becomes.holds
+                ∙ holding_newer b.numbers.now p.log new (omega arith);
+            same = h.1.same ∙ p.becomes.same;
+          };
+          fits = omega arith;
+          makes =
+              next k
+              ∙ append_fits (room_of b) w (get_or bytes i 0) (drop (suc i) bytes) newest at p.log (lt-ltb (length p.log) (room_of b) (omega arith))
+              ∙ ap (λ (q : ℕ). append (room_of b) w (drop (suc i) bytes) q (succ w at) (new ∷ p.log)) one
+              ∙ ap (λ (q : ℕ). append (room_of b) w (drop q bytes) d.count (succ w at) (new ∷ p.log)) step;
+        }
 
-  pub appending_ends : length bytes ≤ i → Leaves l x (Done (Memory w newest) used) m
+  pub appending_ends : length bytes ≤ i → Leaves b x (Ok (Memory w newest)) c
   unfolding append
   appending_ends k =
-      let e = p.makes ∙ ap (λ (more : List ℕ). append room w more newest at p.log) (drop_of_length-le bytes k) in
-      rw p.many at (leaves_log x (stored (Memory w newest) p.log) e p.holds refl)
+      let e = p.makes ∙ ap (λ (more : List ℕ). append (room_of b) w more newest at p.log) (drop_of_length-le bytes k) in
+      leaves_log x (stored (Memory w newest) p.log) e p.becomes
 
 -- ------------------------------------------------------------------------------------------------
 -- A store, by what its address is
@@ -83,16 +121,23 @@ module _ (room : ℕ) (L : Log) (z : ℕ) (big : Bool) (m v : Value) {a : Value}
   unfolding store
   store_appends e s h = rw (e, store, s, h)
 
-  pub store_at_unknown : {t : ValueType} → a ≡ Unknown t → store room L z big m a v ≡ stored (Unknown (type_of m)) L
+  pub store_elsewhere : ((w x : ℕ) → a ≡ Word w x → ⊥) → store room L z big m a v ≡ stored (Unknown (type_of m)) L
   unfolding store
-  store_at_unknown e = rw (e, store)
+  store_elsewhere never = go a never
+    where
+      go : (a : Value) → ((w x : ℕ) → a ≡ Word w x → ⊥) → store room L z big m a v ≡ stored (Unknown (type_of m)) L
+      go (Word w x) never = absurd (never w x refl)
+      go (Unknown t) never = refl
+      go (Memory w head) never = refl
 
-  pub store_at_memory : {w head : ℕ} → a ≡ Memory w head → store room L z big m a v ≡ stored (Unknown (type_of m)) L
-  unfolding store
-  store_at_memory e = rw (e, store)
+-- a memory's head; any other value has none
+pub head_other : (m : Value) → ((w head : ℕ) → m ≡ Memory w head → ⊥) → 0 ≡ head_of m
+unfolding head_of
+head_other (Word w x) never = refl
+head_other (Unknown t) never = refl
+head_other (Memory w head) never = absurd (never w head refl)
 
 -- a store that appends nothing
-pub leaves_all : {l : List ℕ} {count : ℕ} {x : Stored} {v r : Value} → entry_size * count ≤ length l → x ≡ stored v (entries l count) → r ≡ v
-    → Leaves l x (Done r count) l
-leaves_all {l} {count} {x} {v} h e k =
-    rw (length-entries l count, ← k) at (leaves_log x (stored v (entries l count)) e (sym (holding_entries l count h)) refl)
+pub leaves_all : {b : LogBuffer} {x : Stored} {v r : Value} → entry_size * b.count ≤ length b.numbers.now → x ≡ stored v (held b) → r ≡ v
+    → Leaves b x (Ok r) b
+leaves_all {b} {x} {v} h e k = rw (← k) at (leaves_log x (stored v (held b)) e (becomes_same b h))

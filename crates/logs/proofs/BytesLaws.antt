@@ -1,9 +1,9 @@
 -- The bytes that a value is stored as, one by one. Assumes nothing.
-use Rattle.std.proofs.Common.{◌≡◌, ℕ, zero, suc, ◌+◌, ◌-◌, ◌*◌, ◌/◌, ◌%◌, ◌^◌, ◌<◌, Bool, true, false, List, [], ◌∷◌, length, get_or, sym, ap, ◌∙◌, not-suc-le-zero, arith, shr-shr}
+use Rattle.std.proofs.Common.{◌≡◌, ℕ, zero, suc, ◌+◌, ◌-◌, ◌*◌, ◌/◌, ◌%◌, ◌^◌, ◌<◌, Bool, true, false, List, [], ◌∷◌, length, get_or, sym, refl, ap, ◌∙◌, not-suc-le-zero, arith, shr-shr}
 use mathlib.Core.List.{reverse_aux}
 use native.Mathlib.Decide.{dec_lt}
 use lib.ListN.{get_or-replicate}
-use Rattle.value.specs.declared.ValueType.{ValueType}
+use Rattle.value.specs.declared.Value.{Value}
 use Rattle.value.specs.declared.Value.TheVariants.{Word, Unknown, Memory}
 use Rattle.table.specs.Asked.{SizeOk}
 use Rattle.memory.specs.Log.{unknown_byte}
@@ -59,10 +59,9 @@ module _ {z i : ℕ} (size : SizeOk z) (h : i < z / 8) where
       ∙ get_or-bytes_of (z / 8) v (z / 8 - suc i) (omega arith)
       ∙ ap (λ (k : ℕ). v / 2 ^ k % 256) e
 
-  pub byte_unknown : (big : Bool) (t : ValueType) → get_or (bytes_in z big (Unknown t)) i 0 ≡ unknown_byte
+  -- of what is no word
+  pub byte_other : (big : Bool) (v : Value) → ((w x : ℕ) → v ≡ Word w x → ⊥) → unknown_byte ≡ get_or (bytes_in z big v) i 0
   unfolding bytes_in
-  byte_unknown big t = get_or-replicate (z / 8) i unknown_byte 0 h
-
-  pub byte_memory : (big : Bool) (w head : ℕ) → get_or (bytes_in z big (Memory w head)) i 0 ≡ unknown_byte
-  unfolding bytes_in
-  byte_memory big w head = get_or-replicate (z / 8) i unknown_byte 0 h
+  byte_other big (Word w x) never = absurd (never w x refl)
+  byte_other big (Unknown t) never = sym (get_or-replicate (z / 8) i unknown_byte 0 h)
+  byte_other big (Memory w head) never = sym (get_or-replicate (z / 8) i unknown_byte 0 h)

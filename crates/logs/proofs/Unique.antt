@@ -3,6 +3,7 @@ use contract.Lifetimes.{Lfts}
 use Rattle.base.specs.OneAnswer.{OneAnswer, OneOutcome}
 use Rattle.base.proofs.Unique.{is_unique}
 use Rattle.word.proofs.Unique.{gives_unique}
+use Rattle.memory.proofs.Unique.{Content, content, becomes_unique}
 use Rattle.logs.proofs as logs
 
 pub above_unique : OneAnswer (logs.addresses.above.Reads.Post tt)
@@ -15,5 +16,5 @@ pub load_unique : (lent : Lfts 1) → OneAnswer (logs.load.load.Reads.Post lent)
 load_unique lent a x y s t p q = is_unique p.is q.is
 
 -- the result, and what the buffer holds at exit
-pub store_unique : (lent : Lfts 1) → OneOutcome (logs.store.store.Reads.Post lent) (λ s. s.0.now)
-store_unique lent a x y s t p q = (is_unique p.is q.is, is_unique p.holds q.holds)
+pub store_unique : (lent : Lfts 2) → OneOutcome {X = Content} (logs.store.store.Reads.Post lent) (λ s. content s.0.now)
+store_unique lent a x y s t p q = (is_unique p.is q.is, becomes_unique p.log q.log)

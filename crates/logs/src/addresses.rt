@@ -9,5 +9,5 @@ pub fn above(w: u32, a: u64) -> u64
     requires { IsWord w a }
     ensures { Gives w (succ w a) result }
 {
-    trim(w, std::num::wrapping_add_u64(a, 1))
+    trim(w, a.wrapping_add(1))
 }

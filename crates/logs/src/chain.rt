@@ -1,4 +1,4 @@
-// The walk of a chain.
+// The walk of a chain. It takes what a load does.
 ghost use Rattle.std.specs.Prelude.{◌≡◌, ◌≤◌};
 ghost use Rattle.memory.specs.Log.{entries, chain};
 ghost use Rattle.memory.specs.Access.{byte_at};

@@ -1,4 +1,5 @@
-// Loads: the bytes from an address up, joined in their order.
+// Loads: the bytes from an address up, joined in their order. They only read, so they take the numbers and the count, and not the log that a store
+// changes.
 ghost use Rattle.std.specs.Prelude.{◌≡◌, ◌*◌, ◌^◌, ◌<◌, ◌≤◌};
 ghost use Rattle.word.specs.Words.{IsWord};
 ghost use Rattle.value.specs.declared.ValueType.{ValueType};
@@ -34,18 +35,15 @@ fn word_at(log: &[u64], count: usize, z: u32, big: bool, w: u32, head: u64, a: u
     requires word { IsWord w a }
     ensures { result ≡ Access.load (entries log.now count) z big (Value.Memory w head) (Value.Word w a) }
 {
-    let n = z / 8;
     let mut at = a;
     let mut v = 0;
-    let mut i = 0;
-    while i < n {
+    for i in 0..z / 8 {
         let b = byte_at(log, count, head, at);
         if UNKNOWN_BYTE <= b {
             return Value::Unknown(ValueType::Imm(z));
         }
         v = with_byte(big, i, v, b);
         at = above(w, at);
-        i += 1;
     }
     Value::Word(z, v)
 }
@@ -57,13 +55,8 @@ pub fn load(log: &[u64], count: usize, z: u32, big: bool, memory: Value, address
     requires addressed { Addressed (entries log.now count) memory address }
     ensures { Yields (ValueType.Imm z) (Access.load (entries log.now count) z big memory address) result }
 {
-    match memory {
-        Value::Memory(w, head) => match address {
-            Value::Word(_, a) => word_at(log, count, z, big, w, head, a),
-            Value::Unknown(_) => Value::Unknown(ValueType::Imm(z)),
-            Value::Memory(_, _) => Value::Unknown(ValueType::Imm(z)),
-        },
-        Value::Unknown(_) => Value::Unknown(ValueType::Imm(z)),
-        Value::Word(_, _) => Value::Unknown(ValueType::Imm(z)),
+    match (memory, address) {
+        (Value::Memory(w, head), Value::Word(_, a)) => word_at(log, count, z, big, w, head, a),
+        _ => Value::Unknown(ValueType::Imm(z)),
     }
 }

@@ -1,4 +1,5 @@
 pub mod Access
+pub mod Buffer
 pub mod Log
 pub mod Room
 pub mod Typed

@@ -2,9 +2,10 @@
 // laws of chains, loads and stores are here too; the code of loads and stores is in `logs`.
 #![tactic(auto)]
 
-ghost use Rattle.std.specs.Prelude.{◌≡◌, [], ◌∷◌, ◌+◌, ◌-◌, ◌*◌, ◌≤◌, length};
+ghost use Rattle.std.specs.Prelude.{◌≡◌, ◌+◌, ◌-◌, ◌*◌, ◌<◌, ◌≤◌, length, OnOk, OnErr};
 ghost use Rattle.std.proofs.lemmas.List.Edits.{sets};
-ghost use Rattle.memory.specs.Log.{entry_size, entry_at};
+ghost use Rattle.memory.specs.Log.{entry_size, entry_at, fields_of};
+ghost use Rattle.memory.specs.Buffer.{room_of, Pushed};
 
 // "previous entry (0 or a lower number; entries count from 1), address width (1 to 64), address, byte (0 to 255, or 256 unknown)"
 #[derive(Clone, Copy)]
@@ -45,20 +46,40 @@ pub fn entry_at(log: &[u64], n: usize) -> Entry
 }
 
 // An entry written behind the first count.
-pub fn write_entry(
-    log: &mut [u64],
-    count: usize,
-    previous: u64,
-    width: u64,
-    address: u64,
-    byte: u64,
-)
+pub fn write_entry(log: &mut [u64], count: usize, entry: Entry)
     requires { entry_size * count + entry_size ≤ length log.old }
-    ensures { log.new ≡ sets log.old (entry_size * count) (previous ∷ width ∷ address ∷ byte ∷ []) }
+    ensures { log.new ≡ sets log.old (entry_size * count) (fields_of entry) }
 {
     let at = ENTRY_SIZE * count;
-    log[at + PREVIOUS] = previous;
-    log[at + WIDTH] = width;
-    log[at + ADDRESS] = address;
-    log[at + BYTE] = byte;
+    log[at + PREVIOUS] = entry.previous;
+    log[at + WIDTH] = entry.width;
+    log[at + ADDRESS] = entry.address;
+    log[at + BYTE] = entry.byte;
+}
+
+// The log in its buffer: the numbers of its entries, and how many entries it has. What stands behind them is nobody's yet.
+#[derive(Drop)]
+pub struct LogBuffer<'a> {
+    pub numbers: &'a mut [u64],
+    pub count: usize,
+}
+
+// A log that has no room for one entry more.
+#[derive(Clone, Copy)]
+pub struct Full;
+
+impl LogBuffer<'_> {
+    // One entry more, behind the others. Where there is no room for it the buffer is as it was.
+    pub fn push(&mut self, entry: Entry) -> Result<(), Full>
+        requires { entry_size * self.old.count ≤ length self.old.numbers.now }
+        ensures ok { OnOk result ((self.old.count < room_of self.old) × Pushed self.old entry self.new) }
+        ensures full { OnErr result ((room_of self.old ≤ self.old.count) × (self.new ≡ self.old)) }
+    {
+        if self.numbers.len() / ENTRY_SIZE <= self.count {
+            return Err(Full);
+        }
+        write_entry(self.numbers, self.count, entry);
+        self.count += 1;
+        Ok(())
+    }
 }

@@ -1,6 +1,6 @@
 -- The value that a record gives to its expression, by its op and the values of its operands in the order of their evaluation, and what
 -- its op asks of them. Assumes nothing.
-use Rattle.std.specs.Prelude.{◌≡◌, List, [], ◌∷◌, ℕ, ◌+◌, ◌≤◌, eqb}
+use Rattle.std.specs.Prelude.{◌≡◌, List, [], ◌∷◌, ℕ, ◌+◌, ◌≤◌, eqb, Option, Some, None}
 use Rattle.base.specs.Numbered.{numbered}
 use Rattle.word.specs.Words.{Width}
 use Rattle.word.specs.Subs as Subs
@@ -18,8 +18,6 @@ use Rattle.memory.specs.Access as Access
 use Rattle.evaluation.specs.State.{in_state}
 use Rattle.evaluation.specs.Evaluation.{Evaluated, value, after_store, Binding, look}
 use Rattle.logs.specs.Held.{Addressed}
-use Rattle.operation.specs.declared.leaf.AtOnce.{AtOnce}
-use Rattle.operation.specs.declared.leaf.AtOnce.TheVariants.{Is, Deeper}
 
 -- what no accepted table has
 abbrev pub no_value : Value
@@ -28,22 +26,22 @@ no_value = Unknown (Imm 1)
 -- ------------------------------------------------------------------------------------------------
 -- No operand
 
-unfoldable pub leaves : List (ℕ × (Context → List ℕ → Node → List Binding → AtOnce))
+unfoldable pub leaves : List (ℕ × (Context → List ℕ → Node → List Binding → Option Value))
 unfolding look in_state
 leaves =
-    (1, λ Γ σ r ρ. Is (look ρ (in_state σ (Γ.type r.a) r.a) r.a))
-    ∷ (2, λ Γ σ r ρ. Is (Word r.p (word_value r)))
-    ∷ (9, λ Γ σ r ρ. Is (Unknown (unknown_type r)))
+    (1, λ Γ σ r ρ. Some (look ρ (in_state σ (Γ.type r.a) r.a) r.a))
+    ∷ (2, λ Γ σ r ρ. Some (Word r.p (word_value r)))
+    ∷ (9, λ Γ σ r ρ. Some (Unknown (unknown_type r)))
     ∷ []
 
--- the value where there is no operand
-unfoldable pub at_once : Context → List ℕ → Node → List Binding → AtOnce
+-- the value where there is no operand, else nothing as yet
+unfoldable pub at_once : Context → List ℕ → Node → List Binding → Option Value
 unfolding leaves
-at_once Γ σ r ρ = numbered (λ Γ σ r ρ. Deeper) leaves r.op Γ σ r ρ
+at_once Γ σ r ρ = numbered (λ Γ σ r ρ. None) leaves r.op Γ σ r ρ
 
-abbrev pub value_in : AtOnce → Value
-value_in (Is v) = v
-value_in Deeper = no_value
+abbrev pub value_in : Option Value → Value
+value_in (Some v) = v
+value_in None = no_value
 
 unfoldable pub leaf_value : Context → List ℕ → Node → List Binding → Value
 unfolding at_once

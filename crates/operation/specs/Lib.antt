@@ -1,4 +1,3 @@
-pub mod After
 pub mod ByOp
 pub mod Order
 pub mod Outcome

@@ -16,11 +16,11 @@ pub enum Steps {
 }
 
 // By the op of a record: none for an op without operands, and for a number that is no op.
+#[tactic(auto, unfolding(crate::specs::Order::steps_of, crate::specs::Order::orders))]
 pub fn steps_of(r: Node) -> Steps
     ensures { result ≡ steps_of r }
 {
-    let op = r.op;
-    match op {
+    match r.op {
         ops::LOAD => Steps::Two(r.b, r.a),
         ops::STORE => Steps::Three(r.c, r.b, r.a),
         ops::BINARY => Steps::Two(r.a, r.b),

@@ -6,9 +6,8 @@ use Prim.Native.Nat.{ℕ}
 use lib.ListN.{length}
 use Rattle.std.specs.Borrow.{Bor, MutBor}
 use borrow.Author.Tests.{eq-eqb, ne_eqb}
-use Rattle.base.specs.declared.Answer.{Answer}
 use Rattle.std.specs.Prelude.{if◌then◌else◌}
-use Rattle.base.specs.Refusals.{code_of, place_of}
+use Rattle.base.specs.Refusals.{Answer, code_of, place_of}
 use Rattle.typing.specs.Verdict.{check}
 use Rattle.sealing.specs.Verdict.{seal_check}
 use Rattle.running.specs.Start.{Start}

@@ -3,8 +3,7 @@
 -- three demands hold of each library here. A contract speaks of lists of any numbers, so whatever can be lent is among them. Assumes nothing.
 use Rattle.std.specs.Prelude.{◌≡◌, List, ℕ, length, get_or}
 use Rattle.std.specs.Borrow.{Bor, MutBor}
-use Rattle.base.specs.declared.Answer.{Answer}
-use Rattle.base.specs.Refusals.{code_of, place_of}
+use Rattle.base.specs.Refusals.{Answer, code_of, place_of}
 use Rattle.running.specs.Start.{Start}
 use Rattle.running.specs.Result.{Result}
 use Rattle.starts.specs.Lent.{lent}

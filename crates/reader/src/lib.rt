@@ -1,38 +1,31 @@
-// Refusals 1 to 7: the frame and every record of a table, of any bytes. What the later checks ask for holds where this accepts.
+// Refusals 1 to 7: the frame and every record of a table, of any bytes. What the later checks take is what this gives where it accepts.
 #![tactic(auto)]
 
-ghost use Rattle.std.specs.Prelude.{◌≡◌, ◌++◌};
-ghost use Rattle.base.specs.Refusals.{refusal};
-ghost use Rattle.table.specs.Records.{Framed, header_rules, record_rules};
+ghost use Rattle.std.specs.Prelude.{◌≡◌, ◌++◌, IfOk};
+ghost use Rattle.base.specs.Refusals.{refusal, answer_of};
+ghost use Rattle.table.specs.Records.{header_rules, record_rules};
 
-use base::Answer;
+use base::{Answer, Refusal};
 use blocks::statements::statements;
 use records::expressions::expressions;
 use records::variables::variables;
-use table::Header;
-use table::bytes::header;
-use table::framing::framing;
+use table::read::{Frame, Table};
 
 // The first of refusals 5 to 7 that comes, at its lowest place.
-fn records_hold(s: &[u8], h: Header) -> Answer
-    requires { Framed s.now h }
-    ensures { result ≡ refusal (record_rules s.now) }
+fn records_hold(frame: &Frame) -> Answer
+    ensures { result ≡ refusal (record_rules frame.now.bytes.now) }
 {
-    match variables(s, h) {
-        Answer::Refused(code, variable) => Answer::Refused(code, variable),
-        Answer::Accepted => match expressions(s, h) {
-            Answer::Refused(code, expression) => Answer::Refused(code, expression),
-            Answer::Accepted => statements(s, h),
-        },
-    }
+    variables(frame)?;
+    expressions(frame)?;
+    statements(frame)
 }
 
-// The first of refusals 1 to 7 that comes, at its lowest place.
-pub fn reads(s: &[u8]) -> Answer
-    ensures { result ≡ refusal (header_rules s.now ++ record_rules s.now) }
+// The first of refusals 1 to 7 that comes, at its lowest place, or the table that was read.
+pub fn reads<'a>(s: &'a [u8]) -> Result<Table<'a>, Refusal>
+    ensures answer { answer_of result ≡ refusal (header_rules s.now ++ record_rules s.now) }
+    ensures bytes { IfOk result (λ table. table.frame.bytes ≡ s.entry) }
 {
-    match framing(s) {
-        Answer::Refused(code, place) => Answer::Refused(code, place),
-        Answer::Accepted => records_hold(s, header(s)),
-    }
+    let frame = Frame::read(s)?;
+    records_hold(&frame)?;
+    Ok(Table { frame })
 }

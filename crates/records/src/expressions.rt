@@ -5,12 +5,14 @@ ghost use Rattle.std.specs.Prelude.{if◌then◌else◌};
 ghost use Rattle.base.specs.Refusals.{refusal};
 ghost use Rattle.table.specs.Bytes as Bytes;
 ghost use Rattle.table.specs.Fields.{expression_row};
-ghost use Rattle.table.specs.Records.{Framed, record_ok, expression_rule};
+ghost use Rattle.table.specs.Records.{record_ok, expression_rule};
 
 use crate::fields::{all, size, variable_of};
-use base::{Answer, codes, within};
-use table::bytes::{expression, word_value};
-use table::{Header, Node, ROLE_LET, ops};
+use base::codes::Code;
+use base::{Answer, first_fault, within};
+use table::bytes::word_value;
+use table::read::Frame;
+use table::{Node, ROLE_LET, ops};
 use word::subs;
 
 // Whether there is such a type: q 0 an immediate of width p, else a memory of bytes with address width q.
@@ -18,22 +20,17 @@ fn unknown_type(p: u32, q: u32) -> bool
     ensures { result ≡ (if eqb q 0 then leb 1 p && leb p 64 else eqb p 8 && leb q 64) }
 {
     if q == 0 {
-        return within(1, 64, p);
+        (1 <= p) & (p <= 64)
+    } else {
+        (p == 8) & (q <= 64)
     }
-    if p != 8 {
-        return false;
-    }
-    q <= 64
 }
 
 // Whether bits p down to q are 1 to 64 bits.
 fn bits(p: u32, q: u32) -> bool
     ensures { result ≡ (leb q p && leb p (q + 63)) }
 {
-    if q > p {
-        return false;
-    }
-    p - q <= 63
+    q <= p && p - q <= 63
 }
 
 // var: variable a.
@@ -149,16 +146,15 @@ fn cast_ok(i: u32, n: Node) -> bool
 }
 
 // let: let variable a, operands b and c.
-fn let_ok(s: &[u8], h: Header, i: u32, n: Node) -> bool
-    requires framed { Framed s.now h }
-    requires op_value { n.op ≡ 8 }
-    ensures { result ≡ record_ok s.now i (expression_row n) n }
+fn let_ok(frame: &Frame, i: u32, n: Node) -> bool
+    requires { n.op ≡ 8 }
+    ensures { result ≡ record_ok frame.now.bytes.now i (expression_row n) n }
 {
     all(
         n.sub == 0,
         n.p == 0,
         n.q == 0,
-        variable_of(s, h, ROLE_LET, n.a),
+        variable_of(frame, ROLE_LET, n.a),
         n.b < i,
         n.c < i,
         true,
@@ -230,23 +226,22 @@ fn concat_ok(i: u32, n: Node) -> bool
 }
 
 // Whether expression i is one, by the row of its op.
-fn expression_ok(s: &[u8], h: Header, i: u32) -> bool
-    requires framed { Framed s.now h }
-    requires i_lt_expressions { i < h.expressions }
-    ensures { result ≡ record_ok s.now i (expression_row (Bytes.expression s.now i))
-        (Bytes.expression s.now i) }
+fn expression_ok(frame: &Frame, i: u32) -> bool
+    requires { i < frame.now.header.expressions }
+    ensures { result ≡ record_ok frame.now.bytes.now i (expression_row (Bytes.expression frame.now.bytes.now i))
+        (Bytes.expression frame.now.bytes.now i) }
 {
-    let n = expression(s, h, i as usize);
+    let n = frame.expression(i);
     let op = n.op;
     match op {
-        ops::VAR => var_ok(h.variables, n),
+        ops::VAR => var_ok(frame.header.variables, n),
         ops::WORD => word_ok(n),
         ops::LOAD => load_ok(i, n),
         ops::STORE => store_ok(i, n),
         ops::BINARY => binary_ok(i, n),
         ops::UNARY => unary_ok(i, n),
         ops::CAST => cast_ok(i, n),
-        ops::LET => let_ok(s, h, i, n),
+        ops::LET => let_ok(frame, i, n),
         ops::UNKNOWN => unknown_ok(n),
         ops::ITE => ite_ok(i, n),
         ops::EXTRACT => extract_ok(i, n),
@@ -256,16 +251,12 @@ fn expression_ok(s: &[u8], h: Header, i: u32) -> bool
 }
 
 // Refusal 6 at the lowest expression that is none.
-pub fn expressions(s: &[u8], h: Header) -> Answer
-    requires { Framed s.now h }
-    ensures { result ≡ refusal (expression_rule s.now ∷ []) }
+pub fn expressions(frame: &Frame) -> Answer
+    ensures { result ≡ refusal (expression_rule frame.now.bytes.now ∷ []) }
 {
-    let mut i: u32 = 0;
-    while i < h.expressions {
-        if !expression_ok(s, h, i) {
-            return Answer::Refused(codes::EXPRESSION, i);
-        }
-        i += 1;
-    }
-    Answer::Accepted
+    first_fault(
+        Code::Expression,
+        frame.header.expressions,
+        |i| expression_ok(frame, i),
+    )
 }

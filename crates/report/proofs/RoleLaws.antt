@@ -1,9 +1,5 @@
 -- A variable's line, by its role: a state variable has one, a let variable none. Assumes nothing.
-use mathlib.Core.Path.{◌≡◌, refl}
-use mathlib.Core.List.{List, []}
-use Prim.Native.Nat.{ℕ, ◌+◌, ◌*◌}
-use lib.ListN.{get_or}
-use borrow.Author.Tests.{ne_eqb, eq-eqb}
+use Rattle.std.proofs.Common.{◌≡◌, refl, List, [], ℕ, ◌+◌, ◌*◌, get_or, ne_eqb, eq-eqb}
 use Rattle.table.specs.Bytes.{variable}
 use Rattle.report.specs.Lines.{variable_line, line_of}
 

@@ -26,6 +26,16 @@ field k = 32 ∷ decimal k
 -- ------------------------------------------------------------------------------------------------
 -- Lines
 
+-- how long they are at most: a word of 7 letters and two numbers, `run` and five numbers, `var` and a number with what the pair says
+abbrev pub longest_answer : ℕ
+longest_answer = 50
+
+abbrev pub longest_run : ℕ
+longest_run = 109
+
+abbrev pub longest_variable : ℕ
+longest_variable = 53
+
 abbrev pub line_end : List ℕ
 line_end = 10 ∷ []
 

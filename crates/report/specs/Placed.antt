@@ -1,9 +1,12 @@
 -- A text that is put into a buffer. Assumes nothing.
 use Rattle.std.specs.Prelude.{◌≡◌, List, ℕ, ◌+◌, ◌≤◌, length}
 use Rattle.std.proofs.lemmas.List.Edits.{sets}
+use Rattle.report.specs.declared.text.Text.{Text}
 
--- after is before with the text from `at` on and nothing else changed; r is where the text ends, at most `most` bytes on
-pub record Adds (most : ℕ) (before : List ℕ) (at : ℕ) (text after : List ℕ) (r : ℕ) : Type 0 where
-  pub is : after ≡ sets before at text
-  pub end : r ≡ at + length text
-  pub near : r ≤ at + most
+-- the text is put behind what stands, in the same buffer, and nothing else changed; it is at most `most` bytes long
+pub record Puts (most : ℕ) (before : Text) (text : List ℕ) (after : Text) : Type 0 where
+  pub is : after.buffer.now ≡ sets before.buffer.now before.end text
+  pub end : after.end ≡ before.end + length text
+  pub near : after.end ≤ before.end + most
+  pub same_length : length after.buffer.now ≡ length before.buffer.now
+  pub same_buffer : after.buffer.ghost_name ≡ before.buffer.ghost_name

@@ -1,36 +1,44 @@
-// Bytes and numbers put into a buffer, each from a place on. The answer is the place behind them.
+// A text that is made in a buffer, by bytes and numbers put one behind the other.
 ghost use Rattle.std.specs.Prelude.{◌+◌, ◌≤◌, length};
 ghost use Rattle.report.specs.Lines as Lines;
-ghost use Rattle.report.specs.Placed.{Adds};
+ghost use Rattle.report.specs.Placed.{Puts};
 
-// The bytes of a text.
-pub fn add(out: &mut [u8], at: usize, text: &[u8]) -> usize
-    requires { at + length text.now ≤ length out.old }
-    ensures { Adds (length text.now) out.old at text.now out.new result }
-{
-    let mut i = 0;
-    while i < text.len() {
-        out[at + i] = text[i];
-        i += 1;
+// A text: the buffer that holds it, and the place where it ends.
+//
+// The lines are no `impl Display`: a writer may refuse, and of what it wrote by then no clause speaks. Where there is room these are put.
+#[derive(Drop)]
+pub struct Text<'a> {
+    pub buffer: &'a mut [u8],
+    pub end: usize,
+}
+
+impl Text<'_> {
+    // Bytes.
+    pub fn add(&mut self, bytes: &[u8])
+        requires { self.old.end + length bytes.now ≤ length self.old.buffer.now }
+        ensures { Puts (length bytes.now) self.old bytes.now self.new }
+    {
+        let end = self.end + bytes.len();
+        self.buffer[self.end..end].copy_from_slice(bytes);
+        self.end = end;
     }
-    at + i
-}
 
-// A number in decimal.
-pub fn number(out: &mut [u8], at: usize, n: u64) -> usize
-    requires { at + 20 ≤ length out.old }
-    ensures { Adds 20 out.old at (Lines.decimal n) out.new result }
-{
-    let mut digits = [0u8; 20];
-    let k = io::decimal(n, &mut digits);
-    add(out, at, &digits[..k])
-}
+    // A number in decimal.
+    pub fn number(&mut self, n: u64)
+        requires { self.old.end + 20 ≤ length self.old.buffer.now }
+        ensures { Puts 20 self.old (Lines.decimal n) self.new }
+    {
+        let mut digits = [0u8; 20];
+        let k = io::decimal(n, &mut digits);
+        self.add(&digits[..k]);
+    }
 
-// A space and a number in decimal.
-pub fn field(out: &mut [u8], at: usize, n: u64) -> usize
-    requires { at + 21 ≤ length out.old }
-    ensures { Adds 21 out.old at (Lines.field n) out.new result }
-{
-    out[at] = 32;
-    number(out, at + 1, n)
+    // A space and a number in decimal.
+    pub fn field(&mut self, n: u64)
+        requires { self.old.end + 21 ≤ length self.old.buffer.now }
+        ensures { Puts 21 self.old (Lines.field n) self.new }
+    {
+        self.add(b" ");
+        self.number(n);
+    }
 }

@@ -1,24 +1,24 @@
--- The result in its cases: the table is refused, the start is, or both are accepted. Assumes nothing.
+-- The result in its cases: table or start is refused, or both are accepted. Assumes nothing.
 use mathlib.Core.Path.{◌≡◌, refl, sym, ap, subst, ◌∙◌}
 use mathlib.Core.List.{List}
 use Prim.Native.Nat.{ℕ}
-use Rattle.base.specs.Refusals.{refusal}
-use Rattle.base.specs.declared.Answer.{Answer}
-use Rattle.base.specs.declared.Answer.TheVariants.{Accepted, Refused}
-use Rattle.base.proofs.RefusalLaws.{refuses_here, answers_next}
-use Rattle.typing.specs.Verdict.{check_rules, check}
-use Rattle.running.specs.Start.{Start, start_rules}
-use Rattle.running.specs.Result.{run_rules, Accepts, Result, result, refused, ran}
+use Rattle.std.specs.Prelude.{Err}
+use Rattle.base.specs.declared.Refusal.{Refusal}
+use Rattle.base.specs.Refusals.{Accepted, Answer, refusal}
+use Rattle.running.specs.Start.{Start}
+use Rattle.running.specs.Result.{run_rules, Result, result, refused, ran}
 use Rattle.running.proofs.StartLaws.{result_refused, result_ran}
 use Rattle.runner.specs.declared.Outcome.{Outcome}
 use Rattle.runner.specs.Given.{Gives, refused_at}
 
 module _ (s : Start) where
-  gives_refused : {r : Outcome} {code place : ℕ} → refusal (run_rules s) ≡ Refused code place → r ≡ refused_at code place s.count s.next
+  -- a refusal's outcome, the buffers as they were
+  pub gives_refused :
+      {a : Answer} {e : Refusal} {r : Outcome} → a ≡ refusal (run_rules s) → a ≡ Err e → r ≡ refused_at e s.count s.next
       → Gives (result s) r s.state s.log
   unfolding refused
-  gives_refused {r} e is =
-      subst (λ (x : Result). Gives x r s.state s.log) (sym (result_refused s e))
+  gives_refused {e = e} {r = r} rules given is =
+      subst (λ (x : Result). Gives x r s.state s.log) (sym (result_refused s (sym rules ∙ given)))
       (record {
         ending = ap (λ (o : Outcome). o.ending) is;
         ticks = ap (λ (o : Outcome). o.ticks) is;
@@ -28,25 +28,6 @@ module _ (s : Start) where
         log = refl;
       })
 
-  -- t is what the check answers
-  module _ {t : Answer} (checks : t ≡ check s.table) where
-    pub table_refused : {r : Outcome} {code place : ℕ} → t ≡ Refused code place → r ≡ refused_at code place s.count s.next
-        → Gives (result s) r s.state s.log
-    unfolding run_rules check
-    table_refused given = gives_refused (sym (refuses_here (check_rules s.table) (start_rules s) checks given))
-
-    -- past the table the start's rules answer, with u
-    module _ (passes : t ≡ Accepted) {u : Answer} (starts : u ≡ refusal (start_rules s)) where
-      answers : u ≡ refusal (run_rules s)
-      unfolding run_rules check
-      answers = answers_next (check_rules s.table) (start_rules s) checks passes starts
-
-      pub start_refused : {r : Outcome} {code place : ℕ} → u ≡ Refused code place → r ≡ refused_at code place s.count s.next
-          → Gives (result s) r s.state s.log
-      start_refused given = gives_refused (sym answers ∙ given)
-
-      pub accepts : u ≡ Accepted → Accepts s
-      accepts given = sym answers ∙ given
-
-  pub gives_result : {r : Outcome} {σ m : List ℕ} → Accepts s → Gives (ran s) r σ m → Gives (result s) r σ m
-  gives_result {r} {σ} {m} a = subst (λ (x : Result). Gives x r σ m) (sym (result_ran s a))
+  pub gives_result :
+      {a : Answer} {r : Outcome} {σ m : List ℕ} → a ≡ refusal (run_rules s) → a ≡ Accepted → Gives (ran s) r σ m → Gives (result s) r σ m
+  gives_result {r = r} {σ = σ} {m = m} rules given = subst (λ (x : Result). Gives x r σ m) (sym (result_ran s (sym rules ∙ given)))

@@ -1,5 +1,5 @@
 -- No second answer fits: each contract leaves one result, and one content of the state and of the log. Assumes nothing.
-use mathlib.Core.Path.{◌≡◌}
+use mathlib.Core.Path.{◌≡◌, ap₂}
 use mathlib.Core.List.{List}
 use Prim.Native.Nat.{ℕ}
 use contract.Lifetimes.{Lfts}
@@ -7,10 +7,16 @@ use Rattle.base.specs.OneAnswer.{OneAnswer, OneOutcome}
 use Rattle.base.proofs.Unique.{is_unique}
 use Rattle.running.specs.declared.Ending.{Ending}
 use Rattle.running.specs.Result.{Result}
-use Rattle.effect.proofs.Unique.{Buffers, same_buffers}
 use Rattle.runner.specs.declared.Outcome.{Outcome}
 use Rattle.runner.specs.Given.{Gives}
 use Rattle.runner.proofs as runner
+
+-- the contents of the state and of the log
+abbrev pub Buffers : Type 0
+Buffers = List ℕ × List ℕ
+
+same_buffers : {σ τ m n : List ℕ} → σ ≡ τ → m ≡ n → ◌≡◌ {A = Buffers} (σ, m) (τ, n)
+same_buffers = ap₂ (λ (σ m : List ℕ). (σ, m))
 
 abbrev outcome : Ending → ℕ → ℕ → ℕ → Outcome
 outcome ending ticks count next = record { ending = ending; ticks = ticks; count = count; next = next }

@@ -5,8 +5,12 @@ ghost use Rattle.starts.specs.Lent.{lent};
 ghost use Rattle.runner.specs.Given.{Gives};
 
 use crate::Outcome;
+use effect::Machine;
 use execute::turns::block;
+use memory::LogBuffer;
+use running::Ending;
 use table::bytes::header;
+use table::read::{Frame, Table};
 
 // How the run ends. What it leaves, at a stop too, is an accepted start again, for every budget.
 pub fn run_accepted(
@@ -21,14 +25,28 @@ pub fn run_accepted(
     ensures gives { Gives (ran (lent table.now state.old log.old count next budget)) result state.new log.new }
     ensures by_index { (again : ℕ) → Accepts (lent table.now state.new log.new result.count result.next again) }
 {
-    let all = header(table).statements;
-    let x = block(table, state, log, 0, all, budget, count as usize, next);
-    let ending = x.ending;
-    let ticks = budget - x.ticks;
+    let mut buffer = LogBuffer {
+        numbers: log,
+        count: count as usize,
+    };
+    let mut machine = Machine {
+        state,
+        log: &mut buffer,
+        ticks: budget,
+        next,
+    };
+    let frame = Frame {
+        bytes: table,
+        header: header(table),
+    };
+    let ending = match block(&Table { frame }, &mut machine, 0, frame.header.statements) {
+        Ok(()) => Ending::Done,
+        Err(halt) => Ending::Stopped(halt.code, halt.statement),
+    };
     Outcome {
         ending,
-        ticks,
-        count: x.count as u64,
-        next: x.next,
+        ticks: budget - machine.ticks,
+        count: machine.log.count as u64,
+        next: machine.next,
     }
 }

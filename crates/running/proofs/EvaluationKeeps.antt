@@ -6,6 +6,7 @@ use Prim.Native.Nat.{ℕ}
 use lib.Dec.{ltb}
 use lib.ListN.{length}
 use borrow.Author.Tests.{le-leb, lt-leb}
+use Rattle.base.specs.declared.codes.Stop.TheVariants as Stops
 use Rattle.value.specs.declared.ValueType.{ValueType}
 use Rattle.table.specs.Decode.{Context}
 use Rattle.table.specs.Syntax.{Expr}
@@ -24,7 +25,7 @@ use Rattle.evaluation.proofs.EvaluationLaws.{fits_stays, fits_bound, has_look, G
 -- a let, by whether there is room for its binding
 at_let :
     {room : ℕ} {L : Log} {t : ValueType} {r : Evaluated} (b : Bool) → InRoom room L → Gives room L t r
-    → Gives room L t (elim b [ true ↦ r | false ↦ stopped 36 L ])
+    → Gives room L t (elim b [ true ↦ r | false ↦ stopped Stops.TooManyBindings L ])
 at_let true k g = g
 at_let false k g = stops stay k too_many_bindings
 

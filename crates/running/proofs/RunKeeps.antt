@@ -5,6 +5,7 @@ use mathlib.Core.Option.{none, some}
 use Prim.Native.Nat.{ℕ, zero, suc, ◌^◌, ◌≤◌, ◌<◌}
 use native.Mathlib.Nat.{le_refl}
 use native.Mathlib.Omega.{arith}
+use Rattle.base.specs.declared.codes.Stop.{Stop}
 use Rattle.value.specs.declared.ValueType.{ValueType}
 use Rattle.value.specs.declared.ValueType.TheVariants.{Imm}
 use Rattle.value.specs.declared.Value.{Value}
@@ -19,7 +20,7 @@ use Rattle.memory.specs.Room.{InRoom}
 use Rattle.memory.specs.Typed.{Has}
 use Rattle.evaluation.specs.Evaluation.{Evaluated, value, stopped, eval}
 use Rattle.evaluation.proofs.Formed.{Formed, FormedBlock, f_end, f_move, f_jmp, f_cpuexn, f_special, f_while, f_if, formed_then}
-use Rattle.evaluation.proofs.EvaluationLaws.{StopsBy, log_full, too_many_bindings, Gives, gives, stops}
+use Rattle.evaluation.proofs.EvaluationLaws.{Gives, gives, stops}
 use Rattle.running.specs.declared.Ending.{Ending}
 use Rattle.running.specs.declared.Ending.TheVariants.{Done, Stopped}
 use Rattle.running.specs.Run.{Left, left, stop, run, Guard, holds, fails, unsure, guard, target}
@@ -42,14 +43,10 @@ ok_then (T-IF e b c d) k = T-IF e b c (ok_then d k)
 -- ------------------------------------------------------------------------------------------------
 -- What a run keeps
 
--- the endings that a run has: done, or a stop of 32 to 36
+-- the endings that a run has: done, or a stop
 pub data EndsBy : Ending → Type 0 where
   by_done : EndsBy Done
-  by_stop : {code n : ℕ} → 32 ≤ code → code ≤ 36 → EndsBy (Stopped code n)
-
-stop_ends : {code n : ℕ} → StopsBy code → EndsBy (Stopped code n)
-stop_ends log_full = by_stop {code = 34} (omega arith) (omega arith)
-stop_ends too_many_bindings = by_stop {code = 36} (omega arith) (omega arith)
+  by_stop : {code : Stop} {n : ℕ} → EndsBy (Stopped code n)
 
 -- what a run of t ticks from a log leaves
 pub record Kept (s : List ℕ) (room t : ℕ) (L : Log) (l : Left) : Type 0 where
@@ -81,7 +78,7 @@ after :
     → Kept s room (suc t) L (elim r [ stopped code M ↦ stop code n t σ M a | value v M ↦ f v M ])
 unfolding stop
 after n t f h (gives p k g) rest = kept_later p (rest _ _ (stands_later p k h) g)
-after n t f h (stops p k c) rest = kept_later p (kept_left t (stop_ends c) (stands_later p k h))
+after n t f h (stops p k c) rest = kept_later p (kept_left t by_stop (stands_later p k h))
 
 at_guard :
     {s : List ℕ} {room t : ℕ} {L : Log} {x y z : Left} (g : Guard) → Kept s room t L x → Kept s room t L y → Kept s room t L z
@@ -115,24 +112,24 @@ module _ (s : List ℕ) (variables : (x : ℕ) → x < (header s).variables → 
       → Kept s room t L (run (context s) room t k σ L a)
   unfolding run
   run_keeps zero T-END f h = kept_left 0 by_done h
-  run_keeps zero (T-MOVE e k) f h = kept_left 0 (by_stop (omega arith) (omega arith)) h
-  run_keeps zero (T-JMP e k) f h = kept_left 0 (by_stop (omega arith) (omega arith)) h
-  run_keeps zero (T-CPUEXN k) f h = kept_left 0 (by_stop (omega arith) (omega arith)) h
-  run_keeps zero (T-SPECIAL k) f h = kept_left 0 (by_stop (omega arith) (omega arith)) h
-  run_keeps zero (T-WHILE e b k) f h = kept_left 0 (by_stop (omega arith) (omega arith)) h
-  run_keeps zero (T-IF e b c k) f h = kept_left 0 (by_stop (omega arith) (omega arith)) h
+  run_keeps zero (T-MOVE e k) f h = kept_left 0 by_stop h
+  run_keeps zero (T-JMP e k) f h = kept_left 0 by_stop h
+  run_keeps zero (T-CPUEXN k) f h = kept_left 0 by_stop h
+  run_keeps zero (T-SPECIAL k) f h = kept_left 0 by_stop h
+  run_keeps zero (T-WHILE e b k) f h = kept_left 0 by_stop h
+  run_keeps zero (T-IF e b c k) f h = kept_left 0 by_stop h
   run_keeps (suc t) T-END f_end h = kept_left (suc t) by_done h
   run_keeps (suc t) (T-MOVE {n = n} {x = x} e k) (f_move y r fe fk) h =
       after n t _ h (evaluated h e fe) λ v M g hv.
       run_keeps t k fk (record { state = state_moved s variables x v y r hv g.state; log = g.log; next = g.next })
   run_keeps (suc t) (T-JMP {n = n} e k) (f_jmp fe fk) h =
       after n t _ h (evaluated h e fe) λ v M g hv.
-      at_target v _ hv (kept_left t (by_stop (omega arith) (omega arith)) g) λ d l. run_keeps t k fk (record { state = g.state; log = g.log; next = l })
+      at_target v _ hv (kept_left t by_stop g) λ d l. run_keeps t k fk (record { state = g.state; log = g.log; next = l })
   run_keeps (suc t) (T-CPUEXN k) (f_cpuexn fk) h = kept_later stay (run_keeps t k fk h)
   run_keeps (suc t) (T-SPECIAL k) (f_special fk) h = kept_later stay (run_keeps t k fk h)
   run_keeps (suc t) (T-WHILE {n = n} e b k) (f_while fe fb fk) h =
       after n t _ h (evaluated h e fe) λ v M g hv.
-      at_guard (guard v) (run_keeps t (ok_then b (T-WHILE e b k)) (formed_then fb (f_while fe fb fk)) g) (run_keeps t k fk g) (kept_left t (by_stop (omega arith) (omega arith)) g)
+      at_guard (guard v) (run_keeps t (ok_then b (T-WHILE e b k)) (formed_then fb (f_while fe fb fk)) g) (run_keeps t k fk g) (kept_left t by_stop g)
   run_keeps (suc t) (T-IF {n = n} e b c k) (f_if fe fb fc fk) h =
       after n t _ h (evaluated h e fe) λ v M g hv.
-      at_guard (guard v) (run_keeps t (ok_then b k) (formed_then fb fk) g) (run_keeps t (ok_then c k) (formed_then fc fk) g) (kept_left t (by_stop (omega arith) (omega arith)) g)
+      at_guard (guard v) (run_keeps t (ok_then b k) (formed_then fb fk) g) (run_keeps t (ok_then c k) (formed_then fc fk) g) (kept_left t by_stop g)

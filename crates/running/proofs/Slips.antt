@@ -2,6 +2,7 @@
 use mathlib.Core.Path.{◌≡◌, refl}
 use mathlib.Core.List.{List, [], ◌∷◌}
 use Prim.Native.Nat.{ℕ}
+use Rattle.base.specs.declared.codes.Stop.TheVariants as Stops
 use Rattle.value.specs.declared.ValueType.TheVariants.{Imm}
 use Rattle.table.specs.Decode.{Context}
 use Rattle.table.specs.Syntax as S
@@ -16,10 +17,10 @@ module _ (Γ : Context) (room : ℕ) (L : Log) (a : ℕ) where
   jmp_goes_on = refl
 
   -- "Taking an unknown guard for false."
-  pub unknown_while_stops : (σ : List ℕ) → run Γ room 2 (S.while 0 (S.unknown (Imm 1)) (S.cpuexn 1 S.end) S.end) σ L a ≡ left (Stopped 32 0) 1 σ L a
+  pub unknown_while_stops : (σ : List ℕ) → run Γ room 2 (S.while 0 (S.unknown (Imm 1)) (S.cpuexn 1 S.end) S.end) σ L a ≡ left (Stopped Stops.GuardUnknown 0) 1 σ L a
   unfolding run left
   unknown_while_stops σ = refl
 
-  pub unknown_if_stops : (σ : List ℕ) → run Γ room 2 (S.if 0 (S.unknown (Imm 1)) (S.cpuexn 1 S.end) S.end S.end) σ L a ≡ left (Stopped 32 0) 1 σ L a
+  pub unknown_if_stops : (σ : List ℕ) → run Γ room 2 (S.if 0 (S.unknown (Imm 1)) (S.cpuexn 1 S.end) S.end S.end) σ L a ≡ left (Stopped Stops.GuardUnknown 0) 1 σ L a
   unfolding run left
   unknown_if_stops σ = refl

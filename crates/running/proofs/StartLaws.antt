@@ -6,8 +6,9 @@ use native.Mathlib.Omega.{arith}
 use lib.Dec.{ltb, lit<}
 use lib.ListN.{length, get_or}
 use borrow.Author.Tests.{eqb-true, ltb-true, ltb-false}
+use Rattle.base.specs.declared.Refusal.{Refusal}
+use Rattle.std.specs.Prelude.{Err}
 use Rattle.base.specs.Refusals.{AllHold, refusal}
-use Rattle.base.specs.declared.Answer.TheVariants.{Refused}
 use Rattle.base.proofs.RefusalLaws.{accepted_iff, all_hold_append, first_holds, later_hold}
 use Rattle.value.specs.declared.ValueType.{ValueType}
 use Rattle.table.specs.declared.Variable.{Variable}
@@ -31,7 +32,7 @@ pair_head t (unknown r k z) = rw k (omega arith)
 pair_head t (memory r k m h) = rw k h.link.most
 
 -- "Codes 1 to 18 leave all buffers unchanged, ticks 0, log count and next address as given."
-pub result_refused : (s : Start) {code place : ℕ} → refusal (run_rules s) ≡ Refused code place → result s ≡ refused s code place
+pub result_refused : (s : Start) {e : Refusal} → refusal (run_rules s) ≡ Err e → result s ≡ refused s e
 unfolding result
 result_refused s e = rw (e, result)
 

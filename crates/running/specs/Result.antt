@@ -1,8 +1,8 @@
 -- "run gives code, place, ticks, log count, next address", and what each buffer holds then. Assumes nothing.
-use Rattle.std.specs.Prelude.{◌≡◌, List, ◌++◌, ℕ, ◌-◌, length}
-use Rattle.base.specs.declared.Answer.TheVariants.{Accepted}
-use Rattle.base.specs.declared.Answer.TheVariants as Answers
-use Rattle.base.specs.Refusals.{Rule, refusal}
+use Rattle.std.specs.Prelude.{◌≡◌, List, ◌++◌, ℕ, ◌-◌, length, Ok, Err}
+use Rattle.base.specs.Codes.{number, stop_number}
+use Rattle.base.specs.declared.Refusal.{Refusal}
+use Rattle.base.specs.Refusals.{Accepted, Rule, refusal}
 use Rattle.table.specs.Decode.{context, program}
 use Rattle.typing.specs.Verdict.{check_rules}
 use Rattle.memory.specs.Log.{holding}
@@ -22,18 +22,18 @@ pub record Result : Type 0 where
 -- the numbers given back for an ending
 unfoldable pub code_of : Ending → ℕ
 code_of Done = 0
-code_of (Refused code place) = code
-code_of (Stopped code statement) = code
+code_of (Refused refusal) = number refusal.code
+code_of (Stopped stop statement) = stop_number stop
 
 unfoldable pub place_of : Ending → ℕ
 place_of Done = 0
-place_of (Refused code place) = place
-place_of (Stopped code statement) = statement
+place_of (Refused refusal) = refusal.place
+place_of (Stopped stop statement) = statement
 
 -- "Codes 1 to 18 leave all buffers unchanged, ticks 0, log count and next address as given."
-unfoldable pub refused : Start → ℕ → ℕ → Result
-refused s code place =
-    record { ending = Refused code place; ticks = 0; count = s.count; next = s.next; state = s.state; log = s.log }
+unfoldable pub refused : Start → Refusal → Result
+refused s refusal =
+    record { ending = Refused refusal; ticks = 0; count = s.count; next = s.next; state = s.state; log = s.log }
 
 unfoldable pub finished : Start → Left → Result
 unfolding holding
@@ -64,8 +64,8 @@ unfoldable pub result : Start → Result
 unfolding refusal run_rules refused ran
 result s =
     elim (refusal (run_rules s)) [
-      | Accepted ↦ ran s
-      | Answers.Refused code place ↦ refused s code place
+      | Ok accepted ↦ ran s
+      | Err e ↦ refused s e
     ]
 
 -- the start that a caller has after a run, with the numbers and buffers given back

@@ -4,6 +4,8 @@ use Rattle.std.specs.Prelude.{true, false, eqb}
 use mathlib.Core.List.{List, []}
 use Rattle.std.proofs.Math.Option.{Option, none, some}
 use Prim.Native.Nat.{ℕ, zero, suc}
+use Rattle.base.specs.declared.codes.Stop.{Stop}
+use Rattle.base.specs.declared.codes.Stop.TheVariants as Stops
 use Rattle.value.specs.declared.Value.{Value}
 use Rattle.value.specs.declared.Value.TheVariants.{Word, Unknown, Memory}
 use Rattle.table.specs.Decode.{Context}
@@ -27,7 +29,7 @@ unfoldable pub left : Ending → ℕ → List ℕ → Log → ℕ → Left
 left ending t σ L a = record { ending = ending; remaining = t; state = σ; log = L; next = a }
 
 -- a stop with a code at a statement
-unfoldable pub stop : ℕ → ℕ → ℕ → List ℕ → Log → ℕ → Left
+unfoldable pub stop : Stop → ℕ → ℕ → List ℕ → Log → ℕ → Left
 unfolding left
 stop code n = left (Stopped code n)
 
@@ -54,12 +56,12 @@ module _ (Γ : Context) (room : ℕ) where
   unfoldable pub run : ℕ → Block → List ℕ → Log → ℕ → Left
   unfolding left stop guard target eval moved ◌then◌
   run zero S.end σ L a = left Done 0 σ L a
-  run zero (S.move n x e k) σ L a = stop 35 n 0 σ L a
-  run zero (S.jmp n e k) σ L a = stop 35 n 0 σ L a
-  run zero (S.cpuexn n k) σ L a = stop 35 n 0 σ L a
-  run zero (S.special n k) σ L a = stop 35 n 0 σ L a
-  run zero (S.while n e b k) σ L a = stop 35 n 0 σ L a
-  run zero (S.if n e b c k) σ L a = stop 35 n 0 σ L a
+  run zero (S.move n x e k) σ L a = stop Stops.NoTick n 0 σ L a
+  run zero (S.jmp n e k) σ L a = stop Stops.NoTick n 0 σ L a
+  run zero (S.cpuexn n k) σ L a = stop Stops.NoTick n 0 σ L a
+  run zero (S.special n k) σ L a = stop Stops.NoTick n 0 σ L a
+  run zero (S.while n e b k) σ L a = stop Stops.NoTick n 0 σ L a
+  run zero (S.if n e b c k) σ L a = stop Stops.NoTick n 0 σ L a
   run (suc t) S.end σ L a = left Done (suc t) σ L a
   -- MOVE
   run (suc t) (S.move n x e k) σ L a =
@@ -68,7 +70,7 @@ module _ (Γ : Context) (room : ℕ) where
   run (suc t) (S.jmp n e k) σ L a =
       elim (eval Γ room σ e [] L) [
         | stopped code M ↦ stop code n t σ M a
-        | value v M ↦ elim (target v) [ none ↦ stop 33 n t σ M a | some d ↦ run t k σ M d ]
+        | value v M ↦ elim (target v) [ none ↦ stop Stops.JumpUnknown n t σ M a | some d ↦ run t k σ M d ]
       ]
   -- CPUEXN, SPECIAL: "Cpuexn and special change nothing."
   run (suc t) (S.cpuexn n k) σ L a = run t k σ L a
@@ -80,12 +82,12 @@ module _ (Γ : Context) (room : ℕ) where
         | value v M ↦ elim (guard v) [
           | holds ↦ run t (b then S.while n e b k) σ M a
           | fails ↦ run t k σ M a
-          | unsure ↦ stop 32 n t σ M a
+          | unsure ↦ stop Stops.GuardUnknown n t σ M a
         ]
       ]
   -- IF_TRUE, IF_FALSE, IFTHEN_TRUE, IFTHEN_FALSE
   run (suc t) (S.if n e b c k) σ L a =
       elim (eval Γ room σ e [] L) [
         | stopped code M ↦ stop code n t σ M a
-        | value v M ↦ elim (guard v) [ holds ↦ run t (b then k) σ M a | fails ↦ run t (c then k) σ M a | unsure ↦ stop 32 n t σ M a ]
+        | value v M ↦ elim (guard v) [ holds ↦ run t (b then k) σ M a | fails ↦ run t (c then k) σ M a | unsure ↦ stop Stops.GuardUnknown n t σ M a ]
       ]

@@ -1,5 +1,6 @@
 -- What a run takes, and accepted starts: refusals 16 to 18. Assumes nothing.
 use Rattle.std.specs.Prelude.{Bool, true, ◌&&◌, ◌||◌, List, [], ◌∷◌, ℕ, suc, ◌+◌, ◌*◌, ◌%◌, ◌^◌, leb, ltb, eqb, length, get_or}
+use Rattle.base.specs.declared.codes.Code.TheVariants as Codes
 use Rattle.base.specs.Choice.{within}
 use Rattle.base.specs.Refusals.{Rule}
 use Rattle.table.specs.declared.Variable.{Variable}
@@ -50,17 +51,17 @@ pair_ok L v kind n =
 -- The rules
 
 abbrev pub numbers_rule : Start → Rule
-numbers_rule s = record { code = 16; places = 4; holds = λ i. get_or (numbers_ok s) i true }
+numbers_rule s = record { code = Codes.Start; places = 4; holds = λ i. get_or (numbers_ok s) i true }
 
 -- 17: "an entry within the count breaks the log's rules"; entries count from 1
 abbrev pub entry_rule : List ℕ → ℕ → Rule
-entry_rule log count = record { code = 17; places = suc count; holds = λ n. newest_ok (entries log n) }
+entry_rule log count = record { code = Codes.Entry; places = suc count; holds = λ n. newest_ok (entries log n) }
 
 -- each variable of a table, by a state and a log
 abbrev pub pair_rule : List ℕ → List ℕ → Log → Rule
 pair_rule table state L =
     record {
-      code = 18;
+      code = Codes.Pair;
       places = (header table).variables;
       holds = λ x. pair_ok L (variable table x) (get_or state (2 * x) 0) (get_or state (2 * x + 1) 0);
     }

@@ -1,10 +1,13 @@
 // The run of a table. Definitions and laws; the code is in `effect`, `execute` and `runner`.
 #![tactic(auto)]
 
-// How a run ended: done, refused with its code and place, or stopped with its code at a statement.
-#[derive(Clone, Copy)]
+use base::Refusal;
+use base::codes::Stop;
+
+// How a run ended: done, refused, or stopped at a statement.
+#[derive(Clone, Copy, Debug, PartialEq, Eq)]
 pub enum Ending {
     Done,
-    Refused(u32, u32),
-    Stopped(u32, u32),
+    Refused(Refusal),
+    Stopped(Stop, u32),
 }

@@ -9,11 +9,13 @@ use lib.Seq.{get_or-set_same, get_or-set_other}
 use Rattle.table.specs.declared.Node.{Node}
 use Rattle.table.specs.Fields.{operands, expression_row}
 use Rattle.forest.specs.Forest.{how_often}
-use Rattle.forest.specs.Counting.{Stands}
+use Rattle.forest.specs.declared.operands.Operands.{Operands}
+use Rattle.forest.specs.Counting.{listed, AllBelow, Stands}
 use Rattle.scope.specs.Scoping.{Stored, HandedDown}
 use Rattle.forest.proofs.CountLaws.{how_often-append}
+use Rattle.forest.proofs.OperandLaws.{first_below, rest_below}
 use Rattle.scope.proofs.ScopeLaws.{body_stands}
-use Rattle.forest.proofs.StandsLaws.{stands_first, stands_nowhere, in_one}
+use Rattle.forest.proofs.StandsLaws.{stands_first, stands_nowhere, stands_below, in_one}
 
 -- ------------------------------------------------------------------------------------------------
 -- Stores of one value
@@ -51,6 +53,31 @@ stored_then {v} {a} {b} {c} {xs} {ys} f g =
     go k h (no d) =
         g.other k (λ q. let n = q.counts in omega arith) ∙ f.here k (record { counts = omega (arith, h.counts, how_often-append k xs ys) })
 
+-- of operands at which v is to be stored some are left, each with its place
+pub record Storing (v : ℕ) (first all left lets : List ℕ) : Type 0 where
+  pub below : AllBelow (length lets) left
+  pub whole : (after : List ℕ) → Stored v left lets after → Stored v all first after
+
+pub storing_first : {v : ℕ} {o it : Operands} {l : List ℕ} → it ≡ o → AllBelow (length l) (listed o) → Storing v l (listed o) (listed it) l
+storing_first is below = rw is record { below = below; whole = λ after f. f }
+
+pub storing_next :
+    {v : ℕ} {first all left lets : List ℕ} {k : ℕ} {rest : List ℕ} → Storing v first all left lets → left ≡ k ∷ rest
+    → Storing v first all rest (set lets k v)
+storing_next {v} {first} {all} {left} {lets} {k} {rest} so is =
+    let below = subst (AllBelow (length lets)) is so.below in
+    let one = stored_one lets k v (first_below below) in
+    record {
+      below = rw one.long (rest_below below);
+      whole = λ after f. so.whole after (subst (λ (left : List ℕ). Stored v left lets after) (sym is) (stored_then one f));
+    }
+
+pub storing_place : {v : ℕ} {first all left lets : List ℕ} {k : ℕ} {rest : List ℕ} → Storing v first all left lets → left ≡ k ∷ rest → k < length lets
+storing_place {lets = lets} so is = first_below (subst (AllBelow (length lets)) is so.below)
+
+pub storing_last : {v : ℕ} {first all left lets : List ℕ} → Storing v first all left lets → left ≡ [] → Stored v all first lets
+storing_last {v} {lets = lets} so is = so.whole lets (subst (λ (left : List ℕ). Stored v left lets lets) (sym is) stored_none)
+
 -- ------------------------------------------------------------------------------------------------
 -- Handing down
 
@@ -62,8 +89,13 @@ module _ (r : Node) (i : ℕ) {a b ks : List ℕ} (named : ks ≡ operands (expr
   handed_to_all no-let =
       record { long = f.long; body = λ e. absurd (no-let e); operand = λ k h n. stored.here k h; other = stored.other }
 
-  pub handed_to_body : {c : List ℕ} → r.op ≡ 8 → Stored (i + 1) (r.c ∷ []) b c → HandedDown r i a c
-  handed_to_body op g =
+  -- a let's body has its place
+  pub body_place : r.op ≡ 8 → AllBelow (length a) (operands (expression_row r) r) → r.c < length b
+  body_place op below = rw f.long (stands_below below (body_stands r op))
+
+  pub handed_to_body : r.op ≡ 8 → AllBelow (length a) (operands (expression_row r) r) → HandedDown r i a (set b r.c (i + 1))
+  handed_to_body op below =
+      let g = stored_one b r.c (i + 1) (body_place op below) in
       record {
         long = g.long ∙ f.long;
         body = λ e. g.here r.c (stands_first r.c []);

@@ -9,8 +9,7 @@ use native.Mathlib.Omega.{arith}
 use lib.Dec.{eqb}
 use borrow.Author.Tests.{eqb-true, eq-eqb, leb-true, le-leb}
 use Rattle.base.specs.Numbered.{numbered}
-use Rattle.base.specs.Refusals.{refusal}
-use Rattle.base.specs.declared.Answer.TheVariants.{Accepted}
+use Rattle.base.specs.Refusals.{Accepted, refusal}
 use Rattle.base.proofs.BoolLaws.{not_both, and_left, and_right, and_both, or_cases}
 use Rattle.table.specs.declared.Node.{Node}
 use Rattle.table.specs.Bytes.{header, expression}

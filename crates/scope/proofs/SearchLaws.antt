@@ -7,34 +7,51 @@ use native.Mathlib.Decide.{dec_lt}
 use native.Mathlib.Omega.{arith}
 use borrow.Author.Tests.{eqb-true, eqb-false}
 use lib.Dec.{eqb}
-use lib.ListN.{length, get_or, replicate, length-replicate, get_or-replicate}
-use Rattle.std.specs.Prelude.{if◌then◌else◌}
-use Rattle.base.specs.Refusals.{refusal}
-use Rattle.base.specs.declared.Answer.TheVariants.{Accepted, Refused}
+use lib.ListN.{length, get_or, replicate, get_or-replicate}
+use Rattle.std.specs.Prelude.{Option, Some, None}
+use Rattle.base.specs.declared.codes.Code.TheVariants as Codes
+use Rattle.base.specs.Refusals.{Accepted, Refused, refusal}
 use Rattle.base.proofs.RefusalLaws.{one_rule_accepted, one_rule_refused}
 use Rattle.table.specs.declared.Node.{Node}
 use Rattle.table.specs.Bytes.{header, expression}
 use Rattle.table.specs.Fields.{operands, expression_row}
-use Rattle.table.specs.Records.{RecordsHold, most_expressions}
+use Rattle.table.specs.Records.{RecordsHold}
 use Rattle.forest.specs.Forest.{how_often, operands_of, in_scope, use_rule, scope_rule}
 use Rattle.forest.specs.Counting.{Stands}
 use Rattle.scope.specs.Scoping.{Leads, Nearest, NearestFrom, HandedDown}
 use Rattle.scope.proofs.InsideLaws.{operand_below}
 use Rattle.scope.proofs.ScopeLaws.{no_user, body_step, other_step}
 
--- each expression that none below i uses has its nearest let; of those from i on the rule holds below bad, and fails there
-pub record Searched (s lets : List ℕ) (i bad : ℕ) : Type 0 where
-  pub each : (k : ℕ) → k < (header s).expressions → ((j : ℕ) → j < i → Stands k (operands_of s j) → ⊥) → Nearest s k (get_or lets k 0)
-  pub holds : (k : ℕ) → i ≤ k → k < bad → k < (header s).expressions → in_scope s k ≡ true
-  pub fails : bad < most_expressions → (bad < (header s).expressions) × (in_scope s bad ≡ false)
+-- of the expressions from i on the lowest at which the rule fails
+pub data Lowest (s : List ℕ) (i : ℕ) : Option ℕ → Type 0 where
+  nowhere : ((k : ℕ) → i ≤ k → k < (header s).expressions → in_scope s k ≡ true) → Lowest s i None
+  place :
+      {bad : ℕ} → bad < (header s).expressions → ((k : ℕ) → i ≤ k → k < bad → in_scope s k ≡ true) → in_scope s bad ≡ false
+      → Lowest s i (Some bad)
 
--- n zeros have a place for each of m expressions
-pub zeros_room : {n m : ℕ} → m ≤ n → (m ≤ length {A = ℕ} (replicate n 0)) × (replicate {A = ℕ} n 0 ≡ replicate (length {A = ℕ} (replicate n 0)) 0)
-zeros_room {n} h = let long = length-replicate {A = ℕ} n 0 in (omega arith, ap (λ (k : ℕ). replicate {A = ℕ} k 0) (sym long))
+-- each expression that none below i uses has its nearest let, and it is known where the rule fails from i on
+pub record Searched (s lets : List ℕ) (i : ℕ) (lowest : Option ℕ) : Type 0 where
+  pub each : (k : ℕ) → k < (header s).expressions → ((j : ℕ) → j < i → Stands k (operands_of s j) → ⊥) → Nearest s k (get_or lets k 0)
+  pub from : Lowest s i lowest
+
+holds_here : (s : List ℕ) {i : ℕ} → in_scope s i ≡ true → (k : ℕ) → i ≤ k → (i + 1 ≤ k → in_scope s k ≡ true) → in_scope s k ≡ true
+holds_here s {i} holds k from later = go (dec_lt i k)
+  where
+    go : Dec (i < k) → in_scope s k ≡ true
+    go (yes d) = later (omega arith)
+    go (no d) = let same : k ≡ i = omega arith in rw same holds
+
+-- one expression more, at which the rule holds, and one at which it fails
+lowest_on : (s : List ℕ) {i : ℕ} {o : Option ℕ} → in_scope s i ≡ true → Lowest s (i + 1) o → Lowest s i o
+lowest_on s here (nowhere holds) = nowhere (λ k from inside. holds_here s here k from (λ later. holds k later inside))
+lowest_on s here (place inside holds fails) = place inside (λ k from below. holds_here s here k from (λ later. holds k later below)) fails
+
+lowest_here : (s : List ℕ) {i : ℕ} → i < (header s).expressions → in_scope s i ≡ false → Lowest s i (Some i)
+lowest_here s l fails = place l (λ k from below. absurd (omega arith)) fails
 
 module _ (s : List ℕ) (hold : RecordsHold s) where
   pub search_starts :
-      {lets : List ℕ} (n : ℕ) → n ≡ (header s).expressions → n ≤ length lets → lets ≡ replicate (length lets) 0 → Searched s lets n most_expressions
+      {lets : List ℕ} (n : ℕ) → n ≡ (header s).expressions → n ≤ length lets → lets ≡ replicate (length lets) 0 → Searched s lets n None
   search_starts {lets} n all long zeros =
       record {
         each = λ k l alone.
@@ -44,12 +61,11 @@ module _ (s : List ℕ) (hold : RecordsHold s) where
                   let zero = ap (λ (z : List ℕ). get_or z k 0) zeros ∙ get_or-replicate {A = ℕ} (length lets) k 0 0 (omega arith) in
                   absurd (omega arith);
             };
-        holds = λ k from l inside. absurd (omega arith);
-        fails = λ l. absurd (omega arith);
+        from = nowhere (λ k from inside. absurd (omega arith));
       }
 
   -- users come later, so that from i on each has its nearest let
-  pub search_near : {lets : List ℕ} {n bad : ℕ} (i : ℕ) → n ≡ i + 1 → Searched s lets n bad → n ≤ (header s).expressions → NearestFrom s lets i
+  pub search_near : {lets : List ℕ} {n : ℕ} {low : Option ℕ} (i : ℕ) → n ≡ i + 1 → Searched s lets n low → n ≤ (header s).expressions → NearestFrom s lets i
   search_near i next so most =
       record { each = λ k from l. so.each k l (λ j below h. let b = operand_below s hold (omega arith) h in omega arith) }
 
@@ -84,7 +100,7 @@ module _ (s : List ℕ) (hold : RecordsHold s) where
         }
 
     module _
-        {a b : List ℕ} {n bad : ℕ} (next : n ≡ i + 1) (so : Searched s a n bad) {r : Node} (is : r ≡ expression s i) (handed : HandedDown r i a b)
+        {a b : List ℕ} {n : ℕ} {low : Option ℕ} (next : n ≡ i + 1) (so : Searched s a n low) {r : Node} (is : r ≡ expression s i) (handed : HandedDown r i a b)
       where
         down : HandedDown (expression s i) i a b
         down = subst (λ (r : Node). HandedDown r i a b) is handed
@@ -127,35 +143,25 @@ module _ (s : List ℕ) (hold : RecordsHold s) where
                 let no_one : Stands k (operands_of s i) → ⊥ = λ h. let c = h.counts in omega arith in
                 subst (Nearest s k) (sym (down.other k (unnamed k no_one))) (so.each k m (λ j. none_yet no_one j (dec_lt j i)))
 
-        pub search_on : {new : ℕ} (t : Bool) → t ≡ in_scope s i → new ≡ (if t then bad else i) → Searched s b i new
-        search_on {new} t same lower = go t (sym same) lower
-          where
-            go : (t : Bool) → in_scope s i ≡ t → new ≡ (if t then bad else i) → Searched s b i new
-            go true e lower =
-                record {
-                  each = all_have;
-                  holds = λ k from below m. at k m (dec_lt i k) from below;
-                  fails = λ m. subst (λ (bad : ℕ). (bad < (header s).expressions) × (in_scope s bad ≡ false)) (sym lower) (so.fails (omega arith));
-                }
-              where
-                at : (k : ℕ) → k < (header s).expressions → Dec (i < k) → i ≤ k → k < new → in_scope s k ≡ true
-                at k m (yes d) from below = so.holds k (omega arith) (omega arith) m
-                at k m (no d) from below = let same : k ≡ i = omega arith in rw same e
-            go false e lower =
-                record {
-                  each = all_have;
-                  holds = λ k from below m. absurd (omega arith);
-                  fails = λ m. subst (λ (bad : ℕ). (bad < (header s).expressions) × (in_scope s bad ≡ false)) (sym lower) (l, e);
-                }
+        pub search_holds : {new : Option ℕ} {t : Bool} → t ≡ in_scope s i → t ≡ true → new ≡ low → Searched s b i new
+        search_holds told holds is =
+            rw is record { each = all_have; from = lowest_on s (sym told ∙ holds) (subst (λ (n : ℕ). Lowest s n low) next so.from) }
+
+        pub search_fails : {new : Option ℕ} {t : Bool} → t ≡ in_scope s i → t ≡ false → new ≡ Some i → Searched s b i new
+        search_fails told fails is = rw is record { each = all_have; from = lowest_here s l (sym told ∙ fails) }
 
 -- what the search says in the end
-module _ (s : List ℕ) {lets : List ℕ} {i bad : ℕ} (so : Searched s lets i bad) (end : i ≤ 0) where
-  pub search_refused : bad < most_expressions → refusal (scope_rule s ∷ []) ≡ Refused 11 bad
+module _ (s : List ℕ) {lets : List ℕ} {i : ℕ} (end : i ≤ 0) where
+  pub search_refused : {low : Option ℕ} {bad : ℕ} → Searched s lets i low → low ≡ Some bad → refusal (scope_rule s ∷ []) ≡ Refused Codes.Scope bad
   unfolding scope_rule
-  search_refused l =
-      let at = so.fails l in
-      one_rule_refused (scope_rule s) bad at.0 (λ k below. so.holds k (omega arith) below (omega (arith, at.0))) at.1
+  search_refused {bad = bad} so is = go (subst (Lowest s i) is so.from)
+    where
+      go : Lowest s i (Some bad) → refusal (scope_rule s ∷ []) ≡ Refused Codes.Scope bad
+      go (place inside holds fails) = one_rule_refused (scope_rule s) bad inside (λ k below. holds k (omega arith) below) fails
 
-  pub search_accepted : (header s).expressions ≤ bad → refusal (scope_rule s ∷ []) ≡ Accepted
+  pub search_accepted : {low : Option ℕ} → Searched s lets i low → low ≡ None → refusal (scope_rule s ∷ []) ≡ Accepted
   unfolding scope_rule
-  search_accepted all = one_rule_accepted (scope_rule s) (λ k below. so.holds k (omega arith) (omega arith) below)
+  search_accepted so is = go (subst (Lowest s i) is so.from)
+    where
+      go : Lowest s i None → refusal (scope_rule s ∷ []) ≡ Accepted
+      go (nowhere holds) = one_rule_accepted (scope_rule s) (λ k below. holds k (omega arith) below)

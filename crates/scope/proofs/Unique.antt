@@ -4,5 +4,5 @@ use Rattle.base.specs.OneAnswer.{OneAnswer}
 use Rattle.base.proofs.Unique.{is_unique}
 use Rattle.scope.proofs as scope
 
-pub checks_unique : (lent : Lfts 1) → OneAnswer (scope.scopes_ok.Reads.Post lent) × OneAnswer (scope.rules.forest_ok.Reads.Post lent)
+pub checks_unique : (lent : Lfts 2) → OneAnswer (scope.scopes_ok.Reads.Post lent) × OneAnswer (scope.rules.forest_ok.Reads.Post lent)
 checks_unique lent = search is_unique

@@ -5,8 +5,7 @@ use Prim.Native.Nat.{ℕ, zero, suc, ◌+◌, ◌≤◌, ◌<◌}
 use native.Mathlib.Nat.{not-suc-le-zero}
 use native.Mathlib.Decide.{dec_lt}
 use native.Mathlib.Omega.{arith}
-use Rattle.base.specs.Refusals.{refusal}
-use Rattle.base.specs.declared.Answer.TheVariants.{Accepted}
+use Rattle.base.specs.Refusals.{Accepted, refusal}
 use Rattle.table.specs.Bytes.{header}
 use Rattle.forest.specs.Forest.{how_often, over, operands_of, expressions_of, uses, use_rule}
 use Rattle.forest.specs.Counting.{Stands}

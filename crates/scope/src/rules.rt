@@ -1,7 +1,6 @@
 // Refusals 8 to 11 together.
 ghost use Rattle.std.specs.Prelude.{◌≡◌};
 ghost use Rattle.base.specs.Refusals.{refusal};
-ghost use Rattle.table.specs.Records.{Framed, RecordsHold};
 ghost use Rattle.forest.specs.Forest.{forest_rules};
 
 use crate::scopes_ok;
@@ -9,22 +8,14 @@ use base::Answer;
 use forest::depth::depths_ok;
 use forest::nesting::nestings_ok;
 use forest::uses::uses_once;
-use table::Header;
+use table::read::Table;
 
 // The first of refusals 8 to 11 that comes, at its lowest place.
-pub fn forest_ok(s: &[u8], h: Header) -> Answer
-    requires framed { Framed s.now h }
-    requires records_hold { RecordsHold s.now }
-    ensures { result ≡ refusal (forest_rules s.now) }
+pub fn forest_ok(table: &Table) -> Answer
+    ensures { result ≡ refusal (forest_rules table.now.frame.bytes.now) }
 {
-    match uses_once(s, h) {
-        Answer::Refused(code, place) => Answer::Refused(code, place),
-        Answer::Accepted => match depths_ok(s, h) {
-            Answer::Refused(code, place) => Answer::Refused(code, place),
-            Answer::Accepted => match nestings_ok(s, h) {
-                Answer::Refused(code, place) => Answer::Refused(code, place),
-                Answer::Accepted => scopes_ok(s, h),
-            },
-        },
-    }
+    uses_once(table)?;
+    depths_ok(table)?;
+    nestings_ok(table)?;
+    scopes_ok(table)
 }

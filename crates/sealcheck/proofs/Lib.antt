@@ -1,4 +1,2 @@
-pub mod OperandLabels
-pub mod StatementLabels
 pub mod Unique
 pub mod VerdictLaws

@@ -1,4 +1,5 @@
 -- The place of refusal 14: the lowest expression that leaks is the lowest that breaks a rule itself. Assumes nothing.
+use Rattle.std.specs.Prelude.{Option, Some, None}
 use mathlib.Core.Path.{◌≡◌, refl, sym}
 use mathlib.Core.Bool.{Bool, true, false, false≢true}
 use mathlib.Core.List.{List}
@@ -14,8 +15,6 @@ use Rattle.table.specs.Decode.{Context, context, expr}
 use Rattle.table.specs.Syntax.{Expr}
 use Rattle.table.proofs.View as By
 use Rattle.table.proofs.View.{View}
-use Rattle.sealing.specs.declared.Label.{Label}
-use Rattle.sealing.specs.declared.Label.TheVariants.{Of, Leaks}
 use Rattle.sealing.specs.Sealing as Rules
 use Rattle.sealing.specs.Sealing.{Breaks}
 use Rattle.sealing.specs.Labels.{may_go, when, either, load_label, store_label, let_label, label_of, has_label}
@@ -25,27 +24,27 @@ use Rattle.sealing.proofs.SealLaws.{label_decides}
 -- ------------------------------------------------------------------------------------------------
 -- What leaks over operands that don't
 
-of_has : (l : Bool) → has_label (Of l) ≡ true
+of_has : (l : Bool) → has_label (Some l) ≡ true
 unfolding has_label
 of_has l = refl
 
-either_has : (o p : Label) → has_label o ≡ true → has_label p ≡ true → has_label (either o p) ≡ true
+either_has : (o p : Option Bool) → has_label o ≡ true → has_label p ≡ true → has_label (either o p) ≡ true
 unfolding has_label either
-either_has Leaks p h k = h
-either_has (Of l) Leaks h k = k
-either_has (Of l) (Of j) h k = refl
+either_has None p h k = h
+either_has (Some l) None h k = k
+either_has (Some l) (Some j) h k = refl
 
-when_fails : (b : Bool) (o : Label) → has_label o ≡ true → has_label (when b o) ≡ false → b ≡ false
+when_fails : (b : Bool) (o : Option Bool) → has_label o ≡ true → has_label (when b o) ≡ false → b ≡ false
 unfolding when
 when_fails true o h n = absurd (not_both h n)
 when_fails false o h n = refl
 
 -- a label that may not go to a place: the place is open, and it is sealed
-stays : (place : Bool) (o : Label) → has_label o ≡ true → may_go place o ≡ false → (place ≡ false) × (o ≡ Of true)
+stays : (place : Bool) (o : Option Bool) → has_label o ≡ true → may_go place o ≡ false → (place ≡ false) × (o ≡ Some true)
 unfolding has_label may_go
-stays place Leaks h n = absurd (false≢true h)
-stays place (Of true) h n = (n, refl)
-stays place (Of false) h n = absurd (false≢true (sym n))
+stays place None h n = absurd (false≢true h)
+stays place (Some true) h n = (n, refl)
+stays place (Some false) h n = absurd (false≢true (sym n))
 
 -- ------------------------------------------------------------------------------------------------
 -- By op

@@ -1,5 +1,6 @@
 -- Refusals 14 and 15 decide the seal rules: an expression has a label by the rules exactly where `label_of` finds it, and neither refusal
 -- finds anything exactly where every expression has one and the program is clean. Assumes nothing.
+use Rattle.std.specs.Prelude.{Option, Some, None}
 use mathlib.Core.Path.{◌≡◌, refl, sym, ◌∙◌}
 use mathlib.Core.Bool.{Bool, true, false, ◌||◌, false≢true}
 use mathlib.Core.List.{List}
@@ -14,8 +15,6 @@ use Rattle.table.specs.Syntax as S
 use Rattle.table.specs.Syntax.{Expr, Block}
 use Rattle.table.proofs.View as By
 use Rattle.table.proofs.View.{Reads}
-use Rattle.sealing.specs.declared.Label.{Label}
-use Rattle.sealing.specs.declared.Label.TheVariants.{Of, Leaks}
 use Rattle.sealing.specs.Sealing as Rules
 use Rattle.sealing.specs.Sealing.{Seals, Clean, SealHolds}
 use Rattle.sealing.specs.Labels.{may_go, when, either, label_of, has_label}
@@ -24,45 +23,45 @@ use Rattle.sealing.specs.Verdict.{statement_seals, statement_clean}
 -- ------------------------------------------------------------------------------------------------
 -- The pieces of `label_of`, read back: what a label was made of, for what follows from that
 
-of_one : {k l : Bool} → Of k ≡ Of l → k ≡ l
+of_one : {k l : Bool} → Some k ≡ Some l → k ≡ l
 of_one h = cc
 
 module _ {X : Type 0} where
-  when_of : {l : Bool} (b : Bool) (o : Label) → when b o ≡ Of l → (b ≡ true → o ≡ Of l → X) → X
+  when_of : {l : Bool} (b : Bool) (o : Option Bool) → when b o ≡ Some l → (b ≡ true → o ≡ Some l → X) → X
   unfolding when
   when_of true o h on = on refl h
   when_of false o h on = impossible (cc)
 
-  either_of : {l : Bool} (o p : Label) → either o p ≡ Of l → ((k j : Bool) → o ≡ Of k → p ≡ Of j → (k || j) ≡ l → X) → X
+  either_of : {l : Bool} (o p : Option Bool) → either o p ≡ Some l → ((k j : Bool) → o ≡ Some k → p ≡ Some j → (k || j) ≡ l → X) → X
   unfolding either
-  either_of Leaks p h on = impossible (cc)
-  either_of (Of k) Leaks h on = impossible (cc)
-  either_of (Of k) (Of j) h on = on k j refl refl (of_one h)
+  either_of None p h on = impossible (cc)
+  either_of (Some k) None h on = impossible (cc)
+  either_of (Some k) (Some j) h on = on k j refl refl (of_one h)
 
-  may_go_of : (place : Bool) (o : Label) → may_go place o ≡ true → ((l : Bool) → o ≡ Of l → (place ≡ false → l ≡ false) → X) → X
+  may_go_of : (place : Bool) (o : Option Bool) → may_go place o ≡ true → ((l : Bool) → o ≡ Some l → (place ≡ false → l ≡ false) → X) → X
   unfolding may_go
-  may_go_of place Leaks h on = absurd (false≢true h)
-  may_go_of place (Of true) h on = on true refl (λ e. sym h ∙ e)
-  may_go_of place (Of false) h on = on false refl (λ e. refl)
+  may_go_of place None h on = absurd (false≢true h)
+  may_go_of place (Some true) h on = on true refl (λ e. sym h ∙ e)
+  may_go_of place (Some false) h on = on false refl (λ e. refl)
 
-may-go : (place l : Bool) → (place ≡ false → l ≡ false) → may_go place (Of l) ≡ true
+may-go : (place l : Bool) → (place ≡ false → l ≡ false) → may_go place (Some l) ≡ true
 unfolding may_go
 may-go true true h = refl
 may-go false true h = sym (h refl)
 may-go place false h = refl
 
-open_of : (o : Label) → may_go false o ≡ true → o ≡ Of false
+open_of : (o : Option Bool) → may_go false o ≡ true → o ≡ Some false
 open_of o h = may_go_of false o h λ l e c. rw (c refl) at e
 
-has_label-iff : (o : Label) → (has_label o ≡ true) ↔ ((l : Bool) × (o ≡ Of l))
+has_label-iff : (o : Option Bool) → (has_label o ≡ true) ↔ ((l : Bool) × (o ≡ Some l))
 unfolding has_label
-has_label-iff Leaks = (λ h. absurd (false≢true h), λ h. let e = h.1 in impossible (cc))
-has_label-iff (Of l) = (λ h. (l, refl), λ h. refl)
+has_label-iff None = (λ h. absurd (false≢true h), λ h. let e = h.1 in impossible (cc))
+has_label-iff (Some l) = (λ h. (l, refl), λ h. refl)
 
 -- ------------------------------------------------------------------------------------------------
 -- Labels are decided
 
-found : {Γ : Context} {e : Expr} {l : Bool} → Seals Γ e l → label_of Γ e ≡ Of l
+found : {Γ : Context} {e : Expr} {l : Bool} → Seals Γ e l → label_of Γ e ≡ Some l
 unfolding label_of
 found Rules.S-VAR = refl
 found Rules.S-WORD = refl
@@ -80,7 +79,7 @@ found (Rules.S-CONCAT e f) = rw (found e, found f)
 labelled : {Γ : Context} {e : Expr} {k l : Bool} → k ≡ l → Seals Γ e k → Seals Γ e l
 labelled h d = rw h at d
 
-seals : {Γ : Context} (e : Expr) {l : Bool} → label_of Γ e ≡ Of l → Seals Γ e l
+seals : {Γ : Context} (e : Expr) {l : Bool} → label_of Γ e ≡ Some l → Seals Γ e l
 unfolding label_of
 seals (S.var x) h = labelled (of_one h) Rules.S-VAR
 seals (S.word w v) h = labelled (of_one h) Rules.S-WORD
@@ -98,7 +97,7 @@ seals (S.extract p q e) h = Rules.S-EXTRACT (seals e h)
 seals (S.concat e f) h = either_of _ _ h λ k j q r t. labelled t (Rules.S-CONCAT (seals e q) (seals f r))
 seals S.bad h = impossible (cc)
 
-pub label_decides : {Γ : Context} {e : Expr} {l : Bool} → (label_of Γ e ≡ Of l) ↔ Seals Γ e l
+pub label_decides : {Γ : Context} {e : Expr} {l : Bool} → (label_of Γ e ≡ Some l) ↔ Seals Γ e l
 label_decides {e = e} = (seals e, found)
 
 pub some_label_iff : {Γ : Context} {e : Expr} → (has_label (label_of Γ e) ≡ true) ↔ ((l : Bool) × Seals Γ e l)

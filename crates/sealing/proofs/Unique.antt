@@ -12,7 +12,7 @@ pub ops_unique :
     × OneAnswer (sealing.ops.lets.Reads.Post tt)
 ops_unique = search is_unique
 
-pub by_op_unique : (lent : Lfts 1) →
+pub by_op_unique : (lent : Lfts 2) →
     OneAnswer (sealing.by_op.is_sealed.Reads.Post lent)
     × OneAnswer (sealing.by_op.leaf.Reads.Post lent)
     × OneAnswer (sealing.by_op.two.Reads.Post lent)

@@ -1,14 +1,12 @@
 -- The label that a record gives to its expression, by its op and the labels of its operands. Assumes nothing.
-use Rattle.std.specs.Prelude.{false, List, [], ◌∷◌, ℕ}
+use Rattle.std.specs.Prelude.{false, List, [], ◌∷◌, ℕ, Some}
 use Rattle.base.specs.Numbered.{numbered}
 use Rattle.table.specs.declared.Node.{Node}
 use Rattle.table.specs.Decode.{Context}
-use Rattle.sealing.specs.declared.Label.{Label}
-use Rattle.sealing.specs.declared.Label.TheVariants.{Of}
-use Rattle.sealing.specs.Labels.{either, load_label, store_label, let_label}
+use Rattle.sealing.specs.Labels.{Label, either, load_label, store_label, let_label}
 
 unfoldable pub leaves : List (ℕ × (Context → Node → Label))
-leaves = (1, λ Γ r. Of (Γ.sealed r.a)) ∷ []
+leaves = (1, λ Γ r. Some (Γ.sealed r.a)) ∷ []
 
 unfoldable pub twos : List (ℕ × (Context → Node → Label → Label → Label))
 twos = (3, λ Γ r. load_label) ∷ (8, λ Γ r. let_label (Γ.sealed r.a)) ∷ []
@@ -18,7 +16,7 @@ threes = (4, store_label) ∷ []
 
 unfoldable pub leaf_label : Context → Node → Label
 unfolding leaves
-leaf_label Γ r = numbered (λ Γ r. Of false) leaves r.op Γ r
+leaf_label Γ r = numbered (λ Γ r. Some false) leaves r.op Γ r
 
 unfoldable pub two_label : Context → Node → Label → Label → Label
 unfolding twos

@@ -1,19 +1,18 @@
 -- The seal verdict: refusals 14 and 15. Assumes nothing.
 use Rattle.std.specs.Prelude.{Bool, true, false, List, [], ◌∷◌, ◌++◌, ℕ}
+use Rattle.base.specs.declared.codes.Code.TheVariants as Codes
 use Rattle.base.specs.Numbered.{numbered}
-use Rattle.base.specs.Refusals.{Rule, refusal}
-use Rattle.base.specs.declared.Answer.{Answer}
+use Rattle.base.specs.Refusals.{Answer, Rule, refusal}
 use Rattle.table.specs.declared.Node.{Node}
 use Rattle.table.specs.Bytes.{header, statement}
 use Rattle.table.specs.Decode.{Context, context, expr}
 use Rattle.typing.specs.Verdict.{check_rules}
-use Rattle.sealing.specs.declared.Label.{Label}
-use Rattle.sealing.specs.Labels.{may_go, label_of, has_label}
+use Rattle.sealing.specs.Labels.{Label, may_go, label_of, has_label}
 
 -- 14 at an expression that leaks. The lowest that does is the lowest that breaks a rule itself: its operands are lower and do not leak.
 unfoldable pub expression_seal_rule : List ℕ → Rule
 unfolding label_of has_label context expr header
-expression_seal_rule s = record { code = 14; places = (header s).expressions; holds = λ i. has_label (label_of (context s) (expr s i)) }
+expression_seal_rule s = record { code = Codes.ExpressionSeal; places = (header s).expressions; holds = λ i. has_label (label_of (context s) (expr s i)) }
 
 -- 15: "a sealed expression moved to an open variable; a sealed jump or guard" are refused
 unfoldable pub statement_seals : List (ℕ × (Context → Node → (ℕ → Label) → Bool))
@@ -33,7 +32,7 @@ statement_clean s i =
 
 unfoldable pub statement_seal_rule : List ℕ → Rule
 unfolding statement_clean header
-statement_seal_rule s = record { code = 15; places = (header s).statements; holds = statement_clean s }
+statement_seal_rule s = record { code = Codes.StatementSeal; places = (header s).statements; holds = statement_clean s }
 
 unfoldable pub seal_rules : List ℕ → List Rule
 unfolding expression_seal_rule statement_seal_rule

@@ -4,11 +4,5 @@
 pub mod by_op;
 pub mod ops;
 
-// What labelling finds.
-#[derive(Clone, Copy)]
-pub enum Label {
-    // Whether it is sealed.
-    Of(bool),
-    // A rule is broken in it or inside it.
-    Leaks,
-}
+// What labelling finds: whether an expression is sealed, or nothing where a rule is broken in it or inside it.
+pub type Label = Option<bool>;

@@ -2,7 +2,7 @@
 -- the same. Assumes nothing.
 use mathlib.Core.Path.{◌≡◌}
 use mathlib.Core.Bool.{Bool, false}
-use Prim.Native.Nat.{ℕ}
+use Rattle.base.specs.declared.codes.Stop.{Stop}
 use Rattle.value.specs.declared.Value.{Value}
 use Rattle.memory.specs.Log.{Log}
 use Rattle.evaluation.specs.Evaluation.{Evaluated, value, stopped, ◌and_then◌}
@@ -10,7 +10,7 @@ use Rattle.secrecy.proofs.Same.{Same, Onward, here, onward_trans}
 
 pub data Both (sealed : Bool) (L M : Log) : Evaluated → Evaluated → Type 0 where
   both_value : {u v : Value} {L' M' : Log} → Onward L M L' M' → (sealed ≡ false → Same L' M' u v) → Both sealed L M (value u L') (value v M')
-  both_stopped : {code : ℕ} {L' M' : Log} → Onward L M L' M' → Both sealed L M (stopped code L') (stopped code M')
+  both_stopped : {code : Stop} {L' M' : Log} → Onward L M L' M' → Both sealed L M (stopped code L') (stopped code M')
 
 pub both_after : {l : Bool} {K N L M : Log} {r s : Evaluated} → Onward K N L M → Both l L M r s → Both l K N r s
 both_after o (both_value p h) = both_value (onward_trans o p) h

@@ -5,6 +5,7 @@ use mathlib.Core.List.{List}
 use Prim.Native.Nat.{ℕ}
 use lib.Dec.{ltb}
 use lib.ListN.{length}
+use Rattle.base.specs.declared.codes.Stop.TheVariants as Stops
 use Rattle.base.proofs.BoolLaws.{or_false_left, or_false_right}
 use Rattle.table.specs.Decode.{Context}
 use Rattle.table.specs.Syntax.{Expr}
@@ -19,11 +20,11 @@ use Rattle.secrecy.proofs.Worlds.{World, bound_length, world_keeps, world_look, 
 
 -- a let that both worlds have room for, or neither
 bind_both : {l : Bool} {L M : Log} {r s : Evaluated} (ρ π : List Binding) → length L ≡ length M → length ρ ≡ length π → Both l L M r s
-    → Both l L M (elim (ltb (length ρ) most_bindings) [ true ↦ r | false ↦ stopped 36 L ])
-    (elim (ltb (length π) most_bindings) [ true ↦ s | false ↦ stopped 36 M ])
+    → Both l L M (elim (ltb (length ρ) most_bindings) [ true ↦ r | false ↦ stopped Stops.TooManyBindings L ])
+    (elim (ltb (length π) most_bindings) [ true ↦ s | false ↦ stopped Stops.TooManyBindings M ])
 bind_both {l} {L} {M} {r} {s} ρ π n e h = rw e (go (ltb (length π) most_bindings))
   where
-    go : (t : Bool) → Both l L M (elim t [ true ↦ r | false ↦ stopped 36 L ]) (elim t [ true ↦ s | false ↦ stopped 36 M ])
+    go : (t : Bool) → Both l L M (elim t [ true ↦ r | false ↦ stopped Stops.TooManyBindings L ]) (elim t [ true ↦ s | false ↦ stopped Stops.TooManyBindings M ])
     go true = h
     go false = both_stopped (here n)
 

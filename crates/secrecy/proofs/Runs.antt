@@ -4,6 +4,7 @@ use mathlib.Core.Bool.{Bool, false}
 use mathlib.Core.List.{List, []}
 use mathlib.Core.Option.{Option, none, some}
 use Prim.Native.Nat.{ℕ, zero, suc}
+use Rattle.base.specs.declared.codes.Stop.{Stop}
 use Rattle.value.specs.declared.Value.{Value}
 use Rattle.table.specs.Decode.{Context}
 use Rattle.table.specs.Syntax.{Block}
@@ -47,7 +48,7 @@ module _ {Γ : Context} {n : ℕ} where
   unfolding left
   same_left ending t a W = record { ending = refl; remaining = refl; next = refl; world = W }
 
-  same_stop : {σ τ : List ℕ} {L M : Log} (code s t a : ℕ) → World Γ n σ τ [] [] L M → SameLeft Γ n (stop code s t σ L a) (stop code s t τ M a)
+  same_stop : {σ τ : List ℕ} {L M : Log} (code : Stop) (s t a : ℕ) → World Γ n σ τ [] [] L M → SameLeft Γ n (stop code s t σ L a) (stop code s t τ M a)
   unfolding stop
   same_stop code s = same_left (Stopped code s)
 

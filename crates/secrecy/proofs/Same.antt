@@ -8,8 +8,7 @@ use lib.Dec.{eqb}
 use lib.ListN.{length}
 use Rattle.std.specs.Prelude.{if◌then◌else◌}
 use Rattle.base.proofs.BoolLaws.{impossible}
-use Rattle.word.specs.declared.Computed as C
-use Rattle.word.specs.declared.Computed.TheVariants as CV
+use Rattle.std.specs.Prelude as std
 use Rattle.word.specs.Subs as Subs
 use Rattle.value.specs.declared.ValueType.{ValueType}
 use Rattle.value.specs.declared.ValueType.TheVariants.{Mem}
@@ -98,9 +97,9 @@ module _ {L M : Log} where
   pub same_memories : {w v h k : ℕ} → w ≡ v → h ≤ length L → k ≤ length M → chain L h ≡ chain M k → Same L M (Memory w h) (Memory v k)
   same_memories e p q c = rw e (same_memory p q c)
 
-  same_computed : (w : ℕ) (c : C.Computed) → Same L M (computed w c) (computed w c)
-  same_computed w (CV.Word r) = same_word
-  same_computed w CV.Unknown = same_unknown
+  same_computed : (w : ℕ) (c : std.Option ℕ) → Same L M (computed w c) (computed w c)
+  same_computed w (std.Some r) = same_word
+  same_computed w std.None = same_unknown
 
   same_loaded : (z : ℕ) (o : Option ℕ) → Same L M (loaded z o) (loaded z o)
   unfolding loaded

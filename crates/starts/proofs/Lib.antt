@@ -1,4 +1,5 @@
 pub mod EntryLaws
-pub mod NumberLaws
 pub mod PairLaws
 pub mod Unique
+pub mod NumberLaws
+pub mod StartLaws

@@ -1,15 +1,16 @@
 -- What refusal 18 asks of a pair, by its kind. Assumes nothing.
-use mathlib.Core.Path.{◌≡◌, sym}
-use mathlib.Core.Bool.{false, ◌&&◌, or-false, and-false}
-use Prim.Native.Nat.{ℕ, ◌^◌}
-use lib.Dec.{ltb, eqb}
-use lib.ListN.{length}
-use borrow.Author.Tests.{ne_eqb}
+use Rattle.std.proofs.Common.{◌≡◌, refl, sym, ap, List, [], ◌∷◌, Bool, false, ◌&&◌, ℕ, ◌+◌, ◌*◌, ◌^◌, ◌<◌, ltb, eqb, length, get_or, ne_eqb}
+use mathlib.Core.Bool.{or-false, and-false}
 use Rattle.base.specs.Choice.{within}
+use Rattle.base.specs.declared.codes.Code.TheVariants as Codes
+use Rattle.base.specs.Refusals.{Answer, Searched, refusal}
+use Rattle.table.specs.declared.Header.{Header}
 use Rattle.table.specs.declared.Variable.{Variable}
+use Rattle.table.specs.Bytes.{variable}
+use Rattle.table.specs.Records.{Framed}
 use Rattle.memory.specs.Log.{Log, width_at}
 use Rattle.memory.proofs.LogLaws.{length-entries}
-use Rattle.running.specs.Start.{pair_ok}
+use Rattle.running.specs.Start.{pair_ok, pair_rule}
 
 module _ (L : Log) (v : Variable) {kind : ℕ} (n : ℕ) where
   pub absent_pair : kind ≡ 0 → eqb n 0 ≡ pair_ok L v kind n
@@ -40,3 +41,10 @@ module _ (L : Log) (v : Variable) {kind : ℕ} (n : ℕ) where
 
 -- all of these, and that the log of a buffer's first entries is as long as they are many
 pub ruleset pair_laws = (absent_pair, let_pair, word_pair, unknown_pair, memory_pair, no_pair, length-entries)
+
+-- what a search over the variables answers
+pub pairs_searched :
+    (s σ : List ℕ) (L : Log) {h : Header} {Tells : ℕ → Bool → Type 0} {answer : Answer} → Framed s h → Searched Tells Codes.Pair h.variables answer
+    → ((x : ℕ) (b : Bool) → x < h.variables → Tells x b → b ≡ pair_ok L (variable s x) (get_or σ (2 * x) 0) (get_or σ (2 * x + 1) 0))
+    → answer ≡ refusal (pair_rule s σ L ∷ [])
+pairs_searched s σ L framed found told = found (pair_rule s σ L) refl (sym (ap (λ (k : Header). k.variables) framed.is)) told

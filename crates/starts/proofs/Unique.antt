@@ -4,14 +4,14 @@ use Rattle.base.specs.OneAnswer.{OneAnswer}
 use Rattle.base.proofs.Unique.{is_unique}
 use Rattle.starts.proofs as starts
 
-pub entries_unique : (lent : Lfts 1) →
-    OneAnswer (starts.entries.head_ok.Reads.Post lent)
-    × OneAnswer (starts.entries.entries_ok.Reads.Post lent)
+pub entries_unique : (lent : Lfts 2) →
+    OneAnswer (starts.entries.Entries.head_ok.Reads.Post lent)
+    × OneAnswer (starts.entries.Entries.all_ok.Reads.Post lent)
 entries_unique lent = search is_unique
 
-pub pairs_unique : (lent : Lfts 3) → OneAnswer (starts.pairs.pairs_ok.Reads.Post lent)
+pub pairs_unique : (lent : Lfts 5) → OneAnswer (starts.pairs.pairs_ok.Reads.Post lent)
 pairs_unique lent a x y s t = is_unique
 
 -- its promise is for every budget, so at one
-pub starts_unique : (lent : Lfts 3) → OneAnswer (starts.rules.starts_ok.Reads.Post lent)
+pub starts_unique : (lent : Lfts 4) → OneAnswer (starts.rules.starts_ok.Reads.Post lent)
 starts_unique lent a x y s t p q = is_unique (p 0) (q 0)

@@ -1,61 +1,38 @@
 // Refusal 18: what the pair of a variable must be.
-ghost use Rattle.std.specs.Prelude.{◌≡◌, [], ◌∷◌, ◌*◌, ◌≤◌, length};
+ghost use Rattle.std.specs.Prelude.{◌≡◌, [], ◌∷◌, ◌*◌, length};
 ghost use Rattle.base.specs.Refusals.{refusal};
-ghost use Rattle.memory.specs.Log.{entry_size, entries};
-ghost use Rattle.table.specs.Records.{Framed};
+ghost use Rattle.starts.specs.Held.{held};
 ghost use Rattle.running.specs.Start.{pair_ok, pair_rule};
 
-use crate::entries::head_ok;
-use base::{Answer, codes};
-use table::bytes::variable;
-use table::{Header, Variable};
+use crate::entries::Entries;
+use base::codes::Code;
+use base::{Answer, first_fault};
+use table::read::Frame;
+use table::{ROLE_STATE, Variable};
 
 // Whether a start may have the pair kind, n for a variable: "0,0 absent; 1,word that fits, for an immediate; 2,0 unknown; 3,head, for a
-// memory", and for a let variable the first alone.
+// memory", and for a let variable the first alone. The kinds are numbers, since C lends a state in numbers.
 #[tactic(auto, using(crate::proofs::PairLaws::pair_laws))]
-fn pair_ok(v: Variable, log: &[u64], count: u64, kind: u64, n: u64) -> bool
-    requires { entry_size * count ≤ length log.now }
-    ensures { result ≡ pair_ok (entries log.now count) v kind n }
+fn pair_ok(v: Variable, log: &Entries<'_>, kind: u64, n: u64) -> bool
+    ensures { result ≡ pair_ok (held log.now) v kind n }
 {
-    if kind == 0 {
-        return n == 0;
+    match kind {
+        0 => n == 0,
+        _ if v.role != ROLE_STATE => false,
+        1 => v.kind == 1 && word::width::fits(v.width, n),
+        2 => n == 0,
+        3 => v.kind == 2 && log.head_ok(v.addressWidth as u64, n),
+        _ => false,
     }
-    if v.role != table::ROLE_STATE {
-        return false;
-    }
-    if kind == 1 {
-        if v.kind != 1 {
-            return false;
-        }
-        return word::width::fits(v.width, n);
-    }
-    if kind == 2 {
-        return n == 0;
-    }
-    if kind != 3 {
-        return false;
-    }
-    if v.kind != 2 {
-        return false;
-    }
-    head_ok(log, count, v.addressWidth as u64, n)
 }
 
 // Refusal 18 at the lowest variable whose pair is none that a start may have for it.
-pub fn pairs_ok(table: &[u8], h: Header, state: &[u64], log: &[u64], count: u64) -> Answer
-    requires framed { Framed table.now h }
-    requires state_len { length state.now ≡ 2 * h.variables }
-    requires count_in_bounds { entry_size * count ≤ length log.now }
-    ensures { result ≡ refusal (pair_rule table.now state.now (entries log.now count) ∷ []) }
+pub fn pairs_ok(frame: &Frame, state: &[u64], log: &Entries<'_>) -> Answer
+    requires state_len { length state.now ≡ 2 * frame.now.header.variables }
+    ensures { result ≡ refusal (pair_rule frame.now.bytes.now state.now (held log.now) ∷ []) }
 {
-    let mut i: u32 = 0;
-    while i < h.variables {
-        let v = variable(table, h, i as usize);
-        let at = 2 * (i as usize);
-        if !pair_ok(v, log, count, state[at], state[at + 1]) {
-            return Answer::Refused(codes::PAIR, i);
-        }
-        i += 1;
-    }
-    Answer::Accepted
+    first_fault(Code::Pair, frame.header.variables, |x| {
+        let at = 2 * (x as usize);
+        pair_ok(frame.variable(x), log, state[at], state[at + 1])
+    })
 }

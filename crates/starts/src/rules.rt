@@ -1,62 +1,46 @@
 // Refusals 16 to 18 together, and 16 itself.
-ghost use Rattle.std.specs.Prelude.{◌≡◌, List, [], ◌∷◌, ℕ};
+ghost use Rattle.std.specs.Prelude.{◌≡◌, [], ◌∷◌, ℕ};
 ghost use Rattle.base.specs.Refusals.{refusal};
-ghost use Rattle.table.specs.Bytes as Bytes;
-ghost use Rattle.table.specs.Records.{Framed};
 ghost use Rattle.running.specs.Start.{numbers_rule, start_rules};
 ghost use Rattle.starts.specs.Lent.{lent};
 
-use crate::entries::entries_ok;
+use crate::entries::Entries;
 use crate::pairs::pairs_ok;
-use base::{Answer, codes};
+use base::codes::Code;
+use base::{Answer, first_fault};
 use memory::ENTRY_SIZE;
-use table::Header;
+use table::read::Frame;
 
 // "over 65,536 entries"
 const MOST_ENTRIES: usize = 65536;
 
 // Refusal 16 at the lowest of its places that fails: 0 state, 1 log, 2 log count, 3 next address. Of a table it looks at the header.
-fn numbers(h: Header, state: &[u64], log: &[u64], count: u64, next: u64) -> Answer
-    ensures { (table : List ℕ) (budget : ℕ) → h ≡ Bytes.header table
-        → result ≡ refusal (numbers_rule (lent table state.now log.now count next budget) ∷ []) }
+fn numbers(frame: &Frame, state: &[u64], log: &[u64], count: u64, next: u64) -> Answer
+    ensures { (budget : ℕ)
+        → result ≡ refusal (numbers_rule (lent frame.now.bytes.now state.now log.now count next budget) ∷ []) }
 {
     let room = log.len() / ENTRY_SIZE;
-    if state.len() != 2 * (h.variables as usize) {
-        return Answer::Refused(codes::START, 0);
-    }
-    if log.len() % ENTRY_SIZE != 0 {
-        return Answer::Refused(codes::START, 1);
-    }
-    if MOST_ENTRIES < room {
-        return Answer::Refused(codes::START, 1);
-    }
-    if (room as u64) < count {
-        return Answer::Refused(codes::START, 2);
-    }
-    if !word::width::fits(h.width, next) {
-        return Answer::Refused(codes::START, 3);
-    }
-    Answer::Accepted
+    let tests = [
+        state.len() == 2 * (frame.header.variables as usize),
+        (log.len() % ENTRY_SIZE == 0) & (room <= MOST_ENTRIES),
+        count <= room as u64,
+        word::width::fits(frame.header.width, next),
+    ];
+    first_fault(Code::Start, 4, |place| tests[place as usize])
 }
 
-// The first of refusals 16 to 18 that comes, at its lowest place, whatever the budget.
-pub fn starts_ok(
-    table: &[u8],
-    h: Header,
-    state: &[u64],
-    log: &[u64],
-    count: u64,
-    next: u64,
-) -> Answer
-    requires { Framed table.now h }
+// The first of refusals 16 to 18 that comes, at its lowest place, whatever the budget. Log and count come apart, since until refusal 16 is ruled
+// out nothing says that the count fits.
+#[tactic(auto, using(crate::proofs::StartLaws::answers))]
+pub fn starts_ok(frame: &Frame, state: &[u64], log: &[u64], count: u64, next: u64) -> Answer
     ensures { (budget : ℕ)
-        → result ≡ refusal (start_rules (lent table.now state.now log.now count next budget)) }
+        → result ≡ refusal (start_rules (lent frame.now.bytes.now state.now log.now count next budget)) }
 {
-    match numbers(h, state, log, count, next) {
-        Answer::Refused(code, place) => Answer::Refused(code, place),
-        Answer::Accepted => match entries_ok(log, count) {
-            Answer::Refused(code, entry) => Answer::Refused(code, entry),
-            Answer::Accepted => pairs_ok(table, h, state, log, count),
-        },
-    }
+    numbers(frame, state, log, count, next)?;
+    let entries = Entries {
+        numbers: log,
+        count,
+    };
+    entries.all_ok()?;
+    pairs_ok(frame, state, &entries)
 }

@@ -6,7 +6,7 @@ ghost use Rattle.evaluation.specs.State.{value_of, kind_of, number_of, in_state,
 
 use value::{Value, ValueType};
 
-// The kinds of values; 0 is that of an absent variable, and no accepted state has another.
+// The kinds of values; 0 is that of an absent variable, and no accepted state has another. They are numbers, as C lends a state.
 pub const WORD: u64 = 1;
 
 pub const UNKNOWN: u64 = 2;

@@ -6,8 +6,7 @@ use native.Mathlib.Omega.{arith}
 use lib.Dec.{leb, eqb}
 use lib.ListN.{length}
 use borrow.Author.Tests.{leb-true, eqb-true}
-use Rattle.base.specs.Refusals.{AllHold, no_rule, one_more, refusal}
-use Rattle.base.specs.declared.Answer.TheVariants.{Accepted}
+use Rattle.base.specs.Refusals.{Accepted, AllHold, no_rule, one_more, refusal}
 use Rattle.base.proofs.BoolLaws.{and_left, and_right}
 use Rattle.base.proofs.RefusalLaws.{accepted_iff}
 use Rattle.table.specs.Bytes.{header, expressions_from, statements_from, end}

@@ -3,8 +3,7 @@ use mathlib.Core.Path.{◌≡◌}
 use mathlib.Core.List.{List, ◌++◌}
 use mathlib.Core.Logic.{◌↔◌}
 use Prim.Native.Nat.{ℕ, ◌<◌}
-use Rattle.base.specs.Refusals.{AllHold, no_rule, one_more, refusal}
-use Rattle.base.specs.declared.Answer.TheVariants.{Accepted}
+use Rattle.base.specs.Refusals.{Accepted, AllHold, no_rule, one_more, refusal}
 use Rattle.base.proofs.RefusalLaws.{accepted_iff, all_hold_append}
 use Rattle.value.specs.Values.{TypeOk}
 use Rattle.table.specs.Bytes.{header, variable}

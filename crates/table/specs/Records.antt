@@ -1,6 +1,7 @@
 -- What the header and each record must be: refusals 1 to 7. Assumes nothing.
 use Rattle.std.specs.Prelude.{◌≡◌, Bool, true, ◌&&◌, ◌||◌, List, [], ◌∷◌, ℕ, zero, suc, ◌+◌, ◌%◌, ◌≤◌, ◌<◌, leb, ltb, eqb, length}
 use Rattle.std.specs.Prelude.{if◌then◌else◌}
+use Rattle.base.specs.declared.codes.Code.TheVariants as Codes
 use Rattle.base.specs.Choice.{within}
 use Rattle.base.specs.Refusals.{Rule, whole}
 use Rattle.table.specs.declared.Variable.{Variable}
@@ -28,10 +29,10 @@ most_statements = 1024
 unfoldable pub header_rules : List ℕ → List Rule
 header_rules s =
     let h = header s in
-    whole 1 (leb 32 (length s))
-    ∷ whole 2 (eqb h.format 1 && within 1 64 h.width)
-    ∷ whole 3 (leb h.variables most_variables && (leb h.expressions most_expressions && within 1 most_statements h.statements))
-    ∷ whole 4
+    whole Codes.TooShort (leb 32 (length s))
+    ∷ whole Codes.Format (eqb h.format 1 && within 1 64 h.width)
+    ∷ whole Codes.Count (leb h.variables most_variables && (leb h.expressions most_expressions && within 1 most_statements h.statements))
+    ∷ whole Codes.Length
     (eqb h.variablesAt variables_from
     && (eqb h.expressionsAt (expressions_from h)
     && (eqb h.statementsAt (statements_from h) && (eqb h.total (end h) && eqb (length s) (end h)))))
@@ -106,20 +107,20 @@ block_end s i = elim (ends_around s i i) [ [] ↦ (header s).statements | e ∷ 
 
 unfoldable pub variable_rule : List ℕ → Rule
 unfolding variable_ok variable header
-variable_rule s = record { code = 5; places = (header s).variables; holds = λ i. variable_ok (variable s i) }
+variable_rule s = record { code = Codes.Variable; places = (header s).variables; holds = λ i. variable_ok (variable s i) }
 
 -- "Operands are numbers of earlier expressions."
 unfoldable pub expression_rule : List ℕ → Rule
 unfolding record_ok expression_row expression header
 expression_rule s =
-    record { code = 6; places = (header s).expressions; holds = λ i. record_ok s i (expression_row (expression s i)) (expression s i) }
+    record { code = Codes.Expression; places = (header s).expressions; holds = λ i. record_ok s i (expression_row (expression s i)) (expression s i) }
 
 -- "they end inside the block around them"
 unfoldable pub statement_rule : List ℕ → Rule
 unfolding record_ok statement_row second_end block_end statement header
 statement_rule s =
     record {
-      code = 7;
+      code = Codes.Statement;
       places = (header s).statements;
       holds = λ i.
           record_ok s (header s).expressions (statement_row (statement s i)) (statement s i) && leb (second_end s i) (block_end s i);

@@ -3,7 +3,6 @@ ghost use Rattle.std.specs.Prelude.{◌≡◌, ◌+◌, ◌*◌, ◌≤◌, ◌<
 ghost use Rattle.table.specs.Bytes as Bytes;
 ghost use Rattle.table.specs.Bytes.{number};
 ghost use Rattle.table.specs.Fields.{word_value};
-ghost use Rattle.table.specs.Records.{Framed};
 
 use crate::{Header, Node, Variable};
 
@@ -57,7 +56,7 @@ pub fn word_value(r: Node) -> u64
 }
 
 // The variable's record at a place.
-fn variable_at(s: &[u8], at: usize) -> Variable
+pub(crate) fn variable_at(s: &[u8], at: usize) -> Variable
     requires { at + 8 ≤ length s.now }
     ensures { result ≡ Bytes.variable_at s.now at }
 {
@@ -72,7 +71,7 @@ fn variable_at(s: &[u8], at: usize) -> Variable
 }
 
 // The expression's or statement's record at a place.
-fn node_at(s: &[u8], at: usize) -> Node
+pub(crate) fn node_at(s: &[u8], at: usize) -> Node
     requires { at + 16 ≤ length s.now }
     ensures { result ≡ Bytes.node_at s.now at }
 {
@@ -85,34 +84,4 @@ fn node_at(s: &[u8], at: usize) -> Node
         b: long(s, at + 8),
         c: long(s, at + 12),
     }
-}
-
-// Variable i of a table whose frame holds.
-pub fn variable(s: &[u8], h: Header, i: usize) -> Variable
-    requires framed { Framed s.now h }
-    requires i_lt_variables { i < h.variables }
-    ensures { result ≡ Bytes.variable s.now i }
-{
-    variable_at(s, 32 + 8 * i)
-}
-
-// Expression i of a table whose frame holds.
-pub fn expression(s: &[u8], h: Header, i: usize) -> Node
-    requires framed { Framed s.now h }
-    requires i_lt_expressions { i < h.expressions }
-    ensures { result ≡ Bytes.expression s.now i }
-{
-    node_at(s, 32 + 8 * (h.variables as usize) + 16 * i)
-}
-
-// Statement i of a table whose frame holds.
-pub fn statement(s: &[u8], h: Header, i: usize) -> Node
-    requires framed { Framed s.now h }
-    requires i_lt_statements { i < h.statements }
-    ensures { result ≡ Bytes.statement s.now i }
-{
-    node_at(
-        s,
-        32 + 8 * (h.variables as usize) + 16 * (h.expressions as usize) + 16 * i,
-    )
 }

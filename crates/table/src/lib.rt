@@ -4,6 +4,7 @@
 pub mod bytes;
 pub mod framing;
 pub mod ops;
+pub mod read;
 
 // The header: format, address width A, then the counts V, E and S, each with the offset of its section, and the total length.
 #[derive(Clone, Copy)]
@@ -43,7 +44,7 @@ pub struct Node {
     pub c: u32,
 }
 
-// The roles of a variable.
+// The roles of a variable. They are no enum, and kinds and labels are none: a record holds any byte until refusal 5 is ruled out.
 pub const ROLE_STATE: u32 = 0;
 
 pub const ROLE_LET: u32 = 1;

@@ -1,4 +1,5 @@
 // Paper 01's numbers of the ops. specs/Fields.antt has the same numbers beside their rows.
+// They are no enum: a record holds any byte until refusals 6 and 7 are ruled out, and what a function promises of a record holds for every number.
 
 // Ops of expressions.
 pub const VAR: u32 = 1;

@@ -5,6 +5,5 @@
 // inside: at most 64 times, its depth.
 #![tactic(auto)]
 
-pub mod after;
 pub mod rules;
 pub mod walk;

@@ -1,4 +1,5 @@
 -- Typing is decided: an expression has a type by the rules exactly where `infer` finds it. Assumes nothing.
+use Rattle.std.specs.Prelude.{Option, Some, None}
 use mathlib.Core.Path.{◌≡◌, refl, ap}
 use mathlib.Core.Bool.{Bool, true, false, false≢true, and-eq-true_iff}
 use mathlib.Core.Logic.{◌↔◌}
@@ -12,8 +13,6 @@ use Rattle.word.specs.Subs.{binary_width}
 use Rattle.table.specs.Decode.{Context}
 use Rattle.table.specs.Syntax as S
 use Rattle.table.specs.Syntax.{Expr}
-use Rattle.typing.specs.declared.Typed.{Typed}
-use Rattle.typing.specs.declared.Typed.TheVariants.{Of, Untyped}
 use Rattle.typing.specs.Typing as T
 use Rattle.typing.specs.Typing.{◌⊢◌∶◌}
 use Rattle.typing.specs.Infer.{immediate, memory, when, same_type, is_type, has_type, both_types, may_cast, infer}
@@ -35,48 +34,48 @@ same_eq (Mem w) (Mem v) h = ap Mem (eqb-true w v h)
 
 -- each as an elimination: what a result was made of, for what follows from that
 module _ {X : Type 0} {t : ValueType} where
-  untyped_of : Untyped ≡ Of t → X
+  untyped_of : None ≡ Some t → X
   untyped_of h = absurd (let z : ◌≡◌ {A = ℕ} 0 1 = cc in omega arith)
 
-  immediate_of : (o : Typed) (f : ℕ → Typed) → immediate o f ≡ Of t
-      → ((w : ℕ) → o ≡ Of (Imm w) → f w ≡ Of t → X) → X
+  immediate_of : (o : Option ValueType) (f : ℕ → Option ValueType) → immediate o f ≡ Some t
+      → ((w : ℕ) → o ≡ Some (Imm w) → f w ≡ Some t → X) → X
   unfolding immediate
-  immediate_of Untyped f h on = untyped_of h
-  immediate_of (Of (Imm w)) f h on = on w refl h
-  immediate_of (Of (Mem w)) f h on = untyped_of h
+  immediate_of None f h on = untyped_of h
+  immediate_of (Some (Imm w)) f h on = on w refl h
+  immediate_of (Some (Mem w)) f h on = untyped_of h
 
-  memory_of : (o : Typed) (f : ℕ → Typed) → memory o f ≡ Of t
-      → ((a : ℕ) → o ≡ Of (Mem a) → f a ≡ Of t → X) → X
+  memory_of : (o : Option ValueType) (f : ℕ → Option ValueType) → memory o f ≡ Some t
+      → ((a : ℕ) → o ≡ Some (Mem a) → f a ≡ Some t → X) → X
   unfolding memory
-  memory_of Untyped f h on = untyped_of h
-  memory_of (Of (Imm w)) f h on = untyped_of h
-  memory_of (Of (Mem w)) f h on = on w refl h
+  memory_of None f h on = untyped_of h
+  memory_of (Some (Imm w)) f h on = untyped_of h
+  memory_of (Some (Mem w)) f h on = on w refl h
 
-  when_of : (b : Bool) (o : Typed) → when b o ≡ Of t → (b ≡ true → o ≡ Of t → X) → X
+  when_of : (b : Bool) (o : Option ValueType) → when b o ≡ Some t → (b ≡ true → o ≡ Some t → X) → X
   unfolding when
   when_of true o h on = on refl h
   when_of false o h on = untyped_of h
 
-both_of : (o p : Typed) {t : ValueType} → both_types o p ≡ Of t → (o ≡ Of t) × (p ≡ Of t)
+both_of : (o p : Option ValueType) {t : ValueType} → both_types o p ≡ Some t → (o ≡ Some t) × (p ≡ Some t)
 unfolding both_types
-both_of Untyped p h = untyped_of h
-both_of (Of t) Untyped h = untyped_of h
-both_of (Of t) (Of u) h = when_of (same_type t u) (Of t) h λ e p. let q = same_eq t u e in (p, cc)
+both_of None p h = untyped_of h
+both_of (Some t) None h = untyped_of h
+both_of (Some t) (Some u) h = when_of (same_type t u) (Some t) h λ e p. let q = same_eq t u e in (p, cc)
 
-pub is_type_iff : (t : ValueType) (o : Typed) → (is_type t o ≡ true) ↔ (o ≡ Of t)
+pub is_type_iff : (t : ValueType) (o : Option ValueType) → (is_type t o ≡ true) ↔ (o ≡ Some t)
 unfolding is_type
-is_type_iff t Untyped = (λ h. absurd (false≢true h), λ h. untyped_of h)
-is_type_iff t (Of u) = (λ h. ap Of (same_eq u t h), λ h. cc (same_refl t))
+is_type_iff t None = (λ h. absurd (false≢true h), λ h. untyped_of h)
+is_type_iff t (Some u) = (λ h. ap Some (same_eq u t h), λ h. cc (same_refl t))
 
-pub has_type-iff : (o : Typed) → (has_type o ≡ true) ↔ ((t : ValueType) × (o ≡ Of t))
+pub has_type-iff : (o : Option ValueType) → (has_type o ≡ true) ↔ ((t : ValueType) × (o ≡ Some t))
 unfolding has_type
-has_type-iff Untyped = (λ h. absurd (false≢true h), λ h. untyped_of h.1)
-has_type-iff (Of t) = (λ h. (t, refl), λ h. refl)
+has_type-iff None = (λ h. absurd (false≢true h), λ h. untyped_of h.1)
+has_type-iff (Some t) = (λ h. (t, refl), λ h. refl)
 
 -- ------------------------------------------------------------------------------------------------
 -- A derivation is found
 
-pub complete : {Γ : Context} {e : Expr} {t : ValueType} → Γ ⊢ e ∶ t → infer Γ e ≡ Of t
+pub complete : {Γ : Context} {e : Expr} {t : ValueType} → Γ ⊢ e ∶ t → infer Γ e ≡ Some t
 unfolding infer
 complete T.T-VAR = refl
 complete T.T-INT = refl
@@ -96,7 +95,7 @@ complete (T.T-CONCAT h e f) = rw (complete e, complete f, le-leb _ 64 h)
 -- ------------------------------------------------------------------------------------------------
 -- What is found has a derivation
 
-typed : {Γ : Context} {e : Expr} {t u : ValueType} → Of t ≡ Of u → Γ ⊢ e ∶ t → Γ ⊢ e ∶ u
+typed : {Γ : Context} {e : Expr} {t u : ValueType} → Some t ≡ Some u → Γ ⊢ e ∶ t → Γ ⊢ e ∶ u
 typed {t = t} {u = u} h d = let p : t ≡ u = cc in rw p at d
 
 -- T-AOP and T-LOP as one
@@ -118,7 +117,7 @@ cast_typed {Γ} {w} {e} sub p n d = go (leb sub 2) refl
     go true h = T.T-CAST-NARROW (leb-true sub 2 h) (leb-true p w (rw h at n)) d
     go false h = T.T-CAST-WIDEN (leb-false sub 2 h) (leb-true w p (rw h at n)) d
 
-pub sound : {Γ : Context} (e : Expr) {t : ValueType} → infer Γ e ≡ Of t → Γ ⊢ e ∶ t
+pub sound : {Γ : Context} (e : Expr) {t : ValueType} → infer Γ e ≡ Some t → Γ ⊢ e ∶ t
 unfolding infer
 sound (S.var x) h = typed h T.T-VAR
 sound (S.word w v) h = typed h T.T-INT
@@ -149,7 +148,7 @@ sound S.bad h = untyped_of h
 -- ------------------------------------------------------------------------------------------------
 -- Typing is decided, and a type is unique
 
-pub decides : {Γ : Context} {e : Expr} {t : ValueType} → (infer Γ e ≡ Of t) ↔ (Γ ⊢ e ∶ t)
+pub decides : {Γ : Context} {e : Expr} {t : ValueType} → (infer Γ e ≡ Some t) ↔ (Γ ⊢ e ∶ t)
 decides {e = e} = (sound e, complete)
 
 pub unique : {Γ : Context} {e : Expr} {t u : ValueType} → Γ ⊢ e ∶ t → Γ ⊢ e ∶ u → t ≡ u

@@ -17,7 +17,7 @@ pub ops_unique :
     × OneAnswer (typing.ops.concat.Reads.Post tt)
 ops_unique = search is_unique
 
-pub by_op_unique : (lent : Lfts 1) →
+pub by_op_unique : (lent : Lfts 2) →
     OneAnswer (typing.by_op.declared.Reads.Post tt)
     × OneAnswer (typing.by_op.type_of.Reads.Post lent)
     × OneAnswer (typing.by_op.unknown.Reads.Post tt)

@@ -1,10 +1,10 @@
 -- The type verdict: refusals 12 and 13. Assumes nothing.
-use Rattle.std.specs.Prelude.{Bool, true, List, [], ◌∷◌, ◌++◌, ℕ}
+use Rattle.std.specs.Prelude.{Bool, true, List, [], ◌∷◌, ◌++◌, ℕ, Option}
+use Rattle.base.specs.declared.codes.Code.TheVariants as Codes
 use Rattle.base.specs.Numbered.{numbered}
-use Rattle.base.specs.Refusals.{Rule, refusal}
-use Rattle.base.specs.declared.Answer.{Answer}
+use Rattle.base.specs.Refusals.{Answer, Rule, refusal}
+use Rattle.value.specs.declared.ValueType.{ValueType}
 use Rattle.value.specs.declared.ValueType.TheVariants.{Imm}
-use Rattle.typing.specs.declared.Typed.{Typed}
 use Rattle.table.specs.declared.Node.{Node}
 use Rattle.table.specs.Bytes.{header, statement}
 use Rattle.table.specs.Records.{header_rules, record_rules}
@@ -15,7 +15,7 @@ use Rattle.typing.specs.Infer.{is_type, has_type, infer}
 -- 12 at an expression that has no type, 13 at a statement that breaks its rule
 
 -- what a statement asks of the types of expressions
-unfoldable pub statement_types : List (ℕ × (Context → ℕ → Node → (ℕ → Typed) → Bool))
+unfoldable pub statement_types : List (ℕ × (Context → ℕ → Node → (ℕ → Option ValueType) → Bool))
 unfolding is_type
 statement_types =
     (1, λ Γ A r type. is_type (Γ.type r.a) (type r.b))
@@ -32,11 +32,11 @@ statement_typed s i =
 
 unfoldable pub expression_type_rule : List ℕ → Rule
 unfolding infer has_type context expr header
-expression_type_rule s = record { code = 12; places = (header s).expressions; holds = λ i. has_type (infer (context s) (expr s i)) }
+expression_type_rule s = record { code = Codes.ExpressionType; places = (header s).expressions; holds = λ i. has_type (infer (context s) (expr s i)) }
 
 unfoldable pub statement_type_rule : List ℕ → Rule
 unfolding statement_typed header
-statement_type_rule s = record { code = 13; places = (header s).statements; holds = statement_typed s }
+statement_type_rule s = record { code = Codes.StatementType; places = (header s).statements; holds = statement_typed s }
 
 unfoldable pub type_rules : List ℕ → List Rule
 unfolding expression_type_rule statement_type_rule

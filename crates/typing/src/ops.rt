@@ -1,48 +1,20 @@
 // The type that each op makes of the types of its operands, or none where its rule doesn't hold.
-ghost use Rattle.std.specs.Prelude.{◌≡◌, ◌+◌, ◌-◌, ◌≤◌};
-ghost use Rattle.value.specs.declared.ValueType.TheVariants.{Imm};
-ghost use Rattle.typing.specs.Infer as Infer;
-ghost use Rattle.typing.specs.Infer.{same_type, is_type};
-ghost use Rattle.typing.specs.declared.Typed.TheVariants.{Of};
+#![tactic(auto, using(crate::proofs::EqLaws::is_type_is, crate::proofs::EqLaws::same_type_is, crate::proofs::EqLaws::when_is), unfolding(crate::specs::Infer::immediate, crate::specs::Infer::memory, crate::specs::Infer::is_type, crate::specs::Infer::both_types, crate::specs::Infer::load_type, crate::specs::Infer::store_type, crate::specs::Infer::binary_type, crate::specs::Infer::unary_type, crate::specs::Infer::may_cast, crate::specs::Infer::cast_type, crate::specs::Infer::let_type, crate::specs::Infer::ite_type, crate::specs::Infer::extract_type, crate::specs::Infer::concat_type))]
 
-use crate::Typed;
+ghost use Rattle.std.specs.Prelude.{◌≡◌, ◌+◌, ◌-◌, ◌≤◌, Some};
+ghost use Rattle.typing.specs.Infer as Infer;
+ghost use Rattle.typing.specs.Infer.{is_type};
+
 use value::ValueType;
 
-// Is it the same type?
-fn same(t: ValueType, u: ValueType) -> bool
-    ensures { result ≡ same_type t u }
-{
-    match t {
-        ValueType::Imm(w) => match u {
-            ValueType::Imm(v) => w == v,
-            ValueType::Mem(_) => false,
-        },
-        ValueType::Mem(w) => match u {
-            ValueType::Imm(_) => false,
-            ValueType::Mem(v) => w == v,
-        },
-    }
-}
-
 // Was this type found?
-pub fn is_type(t: ValueType, o: Typed) -> bool
+pub fn is_type(t: ValueType, o: Option<ValueType>) -> bool
     ensures { result ≡ is_type t o }
 {
-    match o {
-        Typed::Of(u) => same(u, t),
-        Typed::Untyped => false,
-    }
-}
-
-// The type, where a test passes.
-fn when(b: bool, t: ValueType) -> Typed
-    ensures { result ≡ Infer.when b (Of t) }
-{
-    if b { Typed::Of(t) } else { Typed::Untyped }
+    o == Some(t)
 }
 
 // May a cast go from w bits to p?
-#[tactic(auto, using(crate::proofs::CastLaws::narrows, crate::proofs::CastLaws::widens))]
 fn may_cast(sub: u32, w: u32, p: u32) -> bool
     ensures { result ≡ Infer.may_cast sub w p }
 {
@@ -53,112 +25,77 @@ fn may_cast(sub: u32, w: u32, p: u32) -> bool
     }
 }
 
-// The type of w bits joined with v.
-fn joined(w: u32, v: u32) -> Typed
-    ensures { result ≡ Infer.concat_type (Of (Imm w)) (Of (Imm v)) }
-{
-    if 64 < w {
-        return Typed::Untyped;
-    }
-    if 64 - w < v {
-        return Typed::Untyped;
-    }
-    Typed::Of(ValueType::Imm(w + v))
-}
-
 // A load of z bits at an address.
-pub fn load(z: u32, m: ValueType, e: ValueType) -> Typed
-    ensures { result ≡ Infer.load_type z (Of m) (Of e) }
+pub fn load(z: u32, m: ValueType, e: ValueType) -> Option<ValueType>
+    ensures { result ≡ Infer.load_type z (Some m) (Some e) }
 {
-    match m {
-        ValueType::Imm(_) => Typed::Untyped,
-        ValueType::Mem(a) => when(same(e, ValueType::Imm(a)), ValueType::Imm(z)),
-    }
+    let ValueType::Mem(a) = m else { return None };
+    (e == ValueType::Imm(a)).then_some(ValueType::Imm(z))
 }
 
 // A store of a value of z bits at an address.
-pub fn store(z: u32, m: ValueType, e: ValueType, v: ValueType) -> Typed
-    ensures { result ≡ Infer.store_type z (Of m) (Of e) (Of v) }
+pub fn store(z: u32, m: ValueType, e: ValueType, v: ValueType) -> Option<ValueType>
+    ensures { result ≡ Infer.store_type z (Some m) (Some e) (Some v) }
 {
-    match m {
-        ValueType::Imm(_) => Typed::Untyped,
-        ValueType::Mem(a) => if same(e, ValueType::Imm(a)) {
-            when(same(v, ValueType::Imm(z)), ValueType::Mem(a))
-        } else {
-            Typed::Untyped
-        },
-    }
+    let ValueType::Mem(a) = m else { return None };
+    (e == ValueType::Imm(a) && v == ValueType::Imm(z)).then_some(m)
 }
 
 // A binary operation.
-pub fn binary(sub: u32, e: ValueType, f: ValueType) -> Typed
-    ensures { result ≡ Infer.binary_type sub (Of e) (Of f) }
+pub fn binary(sub: u32, e: ValueType, f: ValueType) -> Option<ValueType>
+    ensures { result ≡ Infer.binary_type sub (Some e) (Some f) }
 {
-    match e {
-        ValueType::Imm(w) => when(same(f, e), ValueType::Imm(value::binary_width(sub, w))),
-        ValueType::Mem(_) => Typed::Untyped,
-    }
+    let ValueType::Imm(w) = e else { return None };
+    (e == f).then_some(ValueType::Imm(value::binary_width(sub, w)))
 }
 
 // A negation or a complement.
-pub fn unary(e: ValueType) -> Typed
-    ensures { result ≡ Infer.unary_type (Of e) }
+pub fn unary(e: ValueType) -> Option<ValueType>
+    ensures { result ≡ Infer.unary_type (Some e) }
 {
-    match e {
-        ValueType::Imm(w) => Typed::Of(ValueType::Imm(w)),
-        ValueType::Mem(_) => Typed::Untyped,
-    }
+    let ValueType::Imm(_) = e else { return None };
+    Some(e)
 }
 
 // A cast to p bits.
-pub fn cast(sub: u32, p: u32, e: ValueType) -> Typed
-    ensures { result ≡ Infer.cast_type sub p (Of e) }
+pub fn cast(sub: u32, p: u32, e: ValueType) -> Option<ValueType>
+    ensures { result ≡ Infer.cast_type sub p (Some e) }
 {
-    match e {
-        ValueType::Imm(w) => when(may_cast(sub, w, p), ValueType::Imm(p)),
-        ValueType::Mem(_) => Typed::Untyped,
-    }
+    let ValueType::Imm(w) = e else { return None };
+    may_cast(sub, w, p).then_some(ValueType::Imm(p))
 }
 
 // A let of a variable of type t.
-pub fn lets(t: ValueType, e: ValueType, f: ValueType) -> Typed
-    ensures { result ≡ Infer.let_type t (Of e) (Of f) }
+pub fn lets(t: ValueType, e: ValueType, f: ValueType) -> Option<ValueType>
+    ensures { result ≡ Infer.let_type t (Some e) (Some f) }
 {
-    when(same(e, t), f)
+    (e == t).then_some(f)
 }
 
 // A choice.
-pub fn ite(c: ValueType, e: ValueType, f: ValueType) -> Typed
-    ensures { result ≡ Infer.ite_type (Of c) (Of e) (Of f) }
+pub fn ite(c: ValueType, e: ValueType, f: ValueType) -> Option<ValueType>
+    ensures { result ≡ Infer.ite_type (Some c) (Some e) (Some f) }
 {
-    if same(c, ValueType::Imm(1)) {
-        when(same(e, f), e)
-    } else {
-        Typed::Untyped
-    }
+    (c == ValueType::Imm(1) && e == f).then_some(e)
 }
 
 // Bits p down to q.
-pub fn extract(p: u32, q: u32, e: ValueType) -> Typed
+pub fn extract(p: u32, q: u32, e: ValueType) -> Option<ValueType>
     requires q_le_p { q ≤ p }
     requires p_bound { p ≤ q + 63 }
-    ensures { result ≡ Infer.extract_type p q (Of e) }
+    ensures { result ≡ Infer.extract_type p q (Some e) }
 {
-    match e {
-        ValueType::Imm(_) => Typed::Of(ValueType::Imm(p - q + 1)),
-        ValueType::Mem(_) => Typed::Untyped,
-    }
+    let ValueType::Imm(_) = e else { return None };
+    Some(ValueType::Imm(p - q + 1))
 }
 
 // Two words as one, of 64 bits at most.
-pub fn concat(e: ValueType, f: ValueType) -> Typed
-    ensures { result ≡ Infer.concat_type (Of e) (Of f) }
+pub fn concat(e: ValueType, f: ValueType) -> Option<ValueType>
+    ensures { result ≡ Infer.concat_type (Some e) (Some f) }
 {
-    match e {
-        ValueType::Imm(w) => match f {
-            ValueType::Imm(v) => joined(w, v),
-            ValueType::Mem(_) => Typed::Untyped,
-        },
-        ValueType::Mem(_) => Typed::Untyped,
-    }
+    let (ValueType::Imm(w), ValueType::Imm(v)) = (e, f) else {
+        return None
+    };
+    let bits = w.checked_add(v)?;
+    (bits <= 64).then_some(ValueType::Imm(bits))
 }

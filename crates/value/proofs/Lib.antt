@@ -1,4 +1,3 @@
-pub mod ChoiceLaws
 pub mod Slips
 pub mod Unique
 pub mod ValueLaws

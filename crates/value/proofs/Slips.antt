@@ -1,6 +1,5 @@
 -- The easy slip that paper 01 names about values: an example that it would break. Assumes nothing.
-use mathlib.Core.Path.{◌≡◌, refl}
-use Prim.Native.Nat.{ℕ}
+use Rattle.std.proofs.Common.{◌≡◌, refl, ℕ}
 use Rattle.value.specs.declared.ValueType.TheVariants.{Imm}
 use Rattle.value.specs.declared.Value.TheVariants.{Word, Unknown}
 use Rattle.value.specs.Values as Values

@@ -1,5 +1,5 @@
 -- No second answer fits: the contract of each public function leaves one result. Assumes nothing.
-use mathlib.Core.Path.{◌≡◌}
+use Rattle.std.proofs.Common.{◌≡◌}
 use Rattle.base.specs.OneAnswer.{OneAnswer}
 use Rattle.base.proofs.Unique.{is_unique}
 use Rattle.value.specs.declared.ValueType.{ValueType}

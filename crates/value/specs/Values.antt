@@ -2,10 +2,7 @@
 -- The names in capitals are rules of 002. Its public copy has lost some of these names (those of the single operations, the unary ones, casts to
 -- unknown and high, extract and concat): they are named as their neighbours are (docs/READING.md, 'From 002 to the definitions'). Laws stand in
 -- proofs/. Assumes nothing.
-use Rattle.std.specs.Prelude.{◌≡◌, ℕ, ◌+◌, ◌-◌, eqb}
-use Rattle.std.specs.Prelude.{if◌then◌else◌}
-use Rattle.word.specs.declared.Computed as C
-use Rattle.word.specs.declared.Computed.TheVariants as CV
+use Rattle.std.specs.Prelude.{◌≡◌, ℕ, ◌+◌, ◌-◌, eqb, Option, Some, None, if◌then◌else◌}
 use Rattle.word.specs.Words as Words
 use Rattle.word.specs.Words.{Width, IsWord}
 use Rattle.word.specs.Subs as Subs
@@ -33,6 +30,12 @@ type_of (Word w a) = Imm w
 type_of (Unknown t) = t
 type_of (Memory w head) = Mem w
 
+-- the bits of a word; unknown and a memory have none
+abbrev pub bits : Value → Option ℕ
+bits (Word w a) = Some a
+bits (Unknown t) = None
+bits (Memory w head) = None
+
 -- a word that fits its width, unknown or a memory of a type that there is
 abbrev pub Sound : Value → Type 0
 Sound (Word w a) = IsWord w a
@@ -46,9 +49,9 @@ pub record Yields (t : ValueType) (x r : Value) : Type 0 where
   pub type : type_of r ≡ t
 
 -- a word that was computed, or unknown, as a value of w bits
-abbrev pub computed : ℕ → C.Computed → Value
-computed w (CV.Word r) = Word w r
-computed w CV.Unknown = Unknown (Imm w)
+abbrev pub computed : ℕ → Option ℕ → Value
+computed w (Some r) = Word w r
+computed w None = Unknown (Imm w)
 
 -- ------------------------------------------------------------------------------------------------
 -- "If any operand of ops 5, 6, 7, 11, 12 is unknown, so is the result"

@@ -1,19 +1,18 @@
 // Values: a word, unknown, or a memory. Unknown keeps its type.
 //
 // Each operation takes the value itself and hands back the resulting value with its width, exactly as specs/Values.antt says.
-// It asks that its operands are sound (a word fits its width) and have the types that paper 01's type rules ask for.
+// It asks that its operands are sound (a word fits its width) and have the types that paper 01's type rules ask for. That a value is sound
+// stays a clause: as the type's invariant it would be asked of every caller, and `type_of` and `size` take any value.
 #![tactic(auto)]
 
 ghost use Rattle.std.specs.Prelude.{◌≡◌, ◌+◌, ◌-◌, ◌≤◌};
 ghost use Rattle.word.specs.Words.{Width};
 ghost use Rattle.word.specs.Subs as Subs;
 ghost use Rattle.value.specs.Values as Values;
-ghost use Rattle.value.specs.Values.{Sound, Yields, type_of, size};
-
-use word::Computed;
+ghost use Rattle.value.specs.Values.{Sound, Yields, type_of, size, bits};
 
 // The type of a value.
-#[derive(Clone, Copy)]
+#[derive(Clone, Copy, PartialEq, Eq, Debug)]
 pub enum ValueType {
     // An immediate: its width.
     Imm(u32),
@@ -21,7 +20,7 @@ pub enum ValueType {
     Mem(u32),
 }
 
-#[derive(Clone, Copy)]
+#[derive(Clone, Copy, PartialEq, Eq, Debug)]
 pub enum Value {
     // A word: its width and its bits.
     Word(u32, u64),
@@ -32,13 +31,10 @@ pub enum Value {
 }
 
 // A computed word, or unknown, as a value of w bits.
-fn computed(w: u32, c: Computed) -> Value
-    ensures { result ≡ Values.computed w c }
+fn computed(w: u32, known: Option<u64>) -> Value
+    ensures { result ≡ Values.computed w known }
 {
-    match c {
-        Computed::Word(a) => Value::Word(w, a),
-        Computed::Unknown => Value::Unknown(ValueType::Imm(w)),
-    }
+    known.map_or(Value::Unknown(ValueType::Imm(w)), |a| Value::Word(w, a))
 }
 
 // The bits of what a binary operation gives: one for a comparison, else those of its operands.
@@ -72,6 +68,16 @@ impl Value {
         }
     }
 
+    // The bits of a word. An operation on a value that has none gives unknown.
+    fn bits(self) -> Option<u64>
+        ensures { result ≡ bits self }
+    {
+        match self {
+            Value::Word(_, a) => Some(a),
+            Value::Unknown(_) | Value::Memory(_, _) => None,
+        }
+    }
+
     // The binary operation of a sub on two values of one type.
     pub fn binary(self, sub: u32, other: Value) -> Value
         requires sound { Sound self }
@@ -79,16 +85,10 @@ impl Value {
         requires self_value { type_of self ≡ type_of other }
         ensures { Yields (Values.binary_type sub (type_of self)) (Values.binary sub self other) result }
     {
-        let w = binary_width(sub, self.type_of().size());
-        match self {
-            Value::Word(v, a) => match other {
-                Value::Word(_, b) => computed(w, word::binary(sub, v, a, b)),
-                Value::Unknown(_) => Value::Unknown(ValueType::Imm(w)),
-                Value::Memory(_, _) => Value::Unknown(ValueType::Imm(w)),
-            },
-            Value::Unknown(_) => Value::Unknown(ValueType::Imm(w)),
-            Value::Memory(_, _) => Value::Unknown(ValueType::Imm(w)),
-        }
+        let w = self.type_of().size();
+        let both = self.bits().zip(other.bits());
+        let known = both.and_then(|(a, b)| word::binary(sub, w, a, b));
+        computed(binary_width(sub, w), known)
     }
 
     // The unary operation of a sub.
@@ -96,11 +96,9 @@ impl Value {
         requires { Sound self }
         ensures { Yields (ValueType.Imm (size (type_of self))) (Values.unary sub self) result }
     {
-        match self {
-            Value::Word(w, a) => computed(w, word::unary(sub, w, a)),
-            Value::Unknown(t) => Value::Unknown(ValueType::Imm(t.size())),
-            Value::Memory(w, _) => Value::Unknown(ValueType::Imm(w)),
-        }
+        let w = self.type_of().size();
+        let known = self.bits().and_then(|a| word::unary(sub, w, a));
+        computed(w, known)
     }
 
     // The cast of a sub to p bits.
@@ -110,11 +108,9 @@ impl Value {
         requires cast_fits { Subs.CastFits sub (size (type_of self)) p }
         ensures { Yields (ValueType.Imm p) (Values.cast sub p self) result }
     {
-        match self {
-            Value::Word(w, a) => computed(p, word::cast(sub, w, p, a)),
-            Value::Unknown(_) => Value::Unknown(ValueType::Imm(p)),
-            Value::Memory(_, _) => Value::Unknown(ValueType::Imm(p)),
-        }
+        let w = self.type_of().size();
+        let known = self.bits().and_then(|a| word::cast(sub, w, p, a));
+        computed(p, known)
     }
 
     // Bits p down to q, with zeros above the word.
@@ -124,11 +120,9 @@ impl Value {
         requires p_bound { p ≤ q + 63 }
         ensures { Yields (ValueType.Imm (p - q + 1)) (Values.extract p q self) result }
     {
-        match self {
-            Value::Word(w, a) => Value::Word(p - q + 1, word::join::extract(w, p, q, a)),
-            Value::Unknown(_) => Value::Unknown(ValueType::Imm(p - q + 1)),
-            Value::Memory(_, _) => Value::Unknown(ValueType::Imm(p - q + 1)),
-        }
+        let w = self.type_of().size();
+        let known = self.bits().map(|a| word::join::extract(w, p, q, a));
+        computed(p - q + 1, known)
     }
 
     // This value above another, of 64 bits together at most.
@@ -138,30 +132,23 @@ impl Value {
         requires other_bound { size (type_of self) + size (type_of other) ≤ 64 }
         ensures { Yields (Values.concat_type (type_of self) (type_of other)) (Values.concat self other) result }
     {
-        let w = self.type_of().size() + other.type_of().size();
-        match self {
-            Value::Word(v, a) => match other {
-                Value::Word(u, b) => Value::Word(w, word::join::concat(v, u, a, b)),
-                Value::Unknown(_) => Value::Unknown(ValueType::Imm(w)),
-                Value::Memory(_, _) => Value::Unknown(ValueType::Imm(w)),
-            },
-            Value::Unknown(_) => Value::Unknown(ValueType::Imm(w)),
-            Value::Memory(_, _) => Value::Unknown(ValueType::Imm(w)),
-        }
+        let v = self.type_of().size();
+        let u = other.type_of().size();
+        let both = self.bits().zip(other.bits());
+        let known = both.map(|(a, b)| word::join::concat(v, u, a, b));
+        computed(v + u, known)
     }
 
     // An ite with this value as its condition: one of two values of one type, or unknown of that type.
-    #[tactic(auto, using(crate::proofs::ChoiceLaws::chosen, crate::proofs::ChoiceLaws::not_chosen, crate::proofs::ChoiceLaws::by_unknown, crate::proofs::ChoiceLaws::by_memory))]
     pub fn choose(self, then: Value, other: Value) -> Value
         requires sound { Sound then }
         requires sound_2 { Sound other }
         requires then_value { type_of then ≡ type_of other }
         ensures { Yields (type_of then) (Values.choose self then other) result }
     {
-        match self {
-            Value::Word(_, c) => { if c == 1 { then } else { other } }
-            Value::Unknown(_) => Value::Unknown(then.type_of()),
-            Value::Memory(_, _) => Value::Unknown(then.type_of()),
+        match self.bits() {
+            Some(c) => { if c == 1 { then } else { other } }
+            None => Value::Unknown(then.type_of()),
         }
     }
 }

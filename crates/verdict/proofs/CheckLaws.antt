@@ -2,8 +2,7 @@
 use mathlib.Core.Path.{◌≡◌, ap, ◌∙◌}
 use mathlib.Core.List.{List, [], ◌∷◌, ◌++◌, append_assoc}
 use Prim.Native.Nat.{ℕ}
-use Rattle.base.specs.Refusals.{refusal}
-use Rattle.base.specs.declared.Answer.TheVariants.{Accepted}
+use Rattle.base.specs.Refusals.{Accepted, refusal}
 use Rattle.base.proofs.RefusalLaws.{accepted_iff, all_hold_append}
 use Rattle.table.specs.Bytes.{header}
 use Rattle.table.specs.Records.{header_rules, record_rules, Framed, RecordsHold}

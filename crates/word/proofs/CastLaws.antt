@@ -1,11 +1,10 @@
 -- Widening, extract and concat. Assumes nothing.
-use Rattle.std.proofs.Common.{◌≡◌, ℕ, suc, ◌+◌, ◌-◌, ◌*◌, ◌%◌, ◌^◌, ◌<◌, ◌≤◌, Bool, ℤ, ap, ◌∙◌, lt_of_lt_of_le, arith, pow_pos, pow_mono, shl_exact}
-use native.Mathlib.Nat.{div-eq_of_lt, zero-mod}
-use lib.Bits.{bit_or, or_shifted}
-use Rattle.std.specs.Prelude.{if◌then◌else◌}
+use Rattle.std.proofs.Common.{◌≡◌, ℕ, suc, ◌+◌, ◌-◌, ◌*◌, ◌%◌, ◌^◌, ◌<◌, ◌≤◌, Bool, true, false, ℤ, sym, ap, ◌∙◌, lt_of_lt_of_le, arith, pow_pos, pow_mono, shl_exact, bit_or, if◌then◌else◌}
+use Rattle.std.proofs.Math.Nat.{div-eq_of_lt, zero-mod}
+use Rattle.std.proofs.lemmas.Nat.{or_shifted}
 use Rattle.word.specs.Words as Words
-use Rattle.word.specs.Words.{word_of}
-use Rattle.word.proofs.SignedLaws.{Reading, plain, below, word_pos, word_negsuc}
+use Rattle.word.specs.Words.{negative, word_of}
+use Rattle.word.proofs.SignedLaws.{Reading, plain, below, reading, word_pos, word_negsuc}
 
 -- of a word below zero the complement stays
 pub word_widened : {w p a : ℕ} {z : ℤ} {t : Bool} → Reading w a z t → w ≤ p → a < 2 ^ w
@@ -19,5 +18,18 @@ word_widened {w} {p} {a} (below h) g l =
 pub extract_wide : (p q a : ℕ) → a < 2 ^ q → Words.extract p q a ≡ 0
 extract_wide p q a h = rw (div-eq_of_lt {n = a} {m = 2 ^ q} h) (zero-mod (2 ^ (p - q + 1)))
 
-pub concat_is : (w v a b : ℕ) → w + v ≤ 64 → a < 2 ^ w → b < 2 ^ v → bit_or (a * 2 ^ v % 2 ^ 64) b ≡ Words.concat v a b
-concat_is w v a b h ha hb = ap (λ (x : ℕ). bit_or x b) (shl_exact w v 64 ha h) ∙ or_shifted a v b hb
+-- so too from bit 64 on
+pub extract_above : (p q a : ℕ) → a < 2 ^ 64 → 64 ≤ q → Words.extract p q a ≡ 0
+extract_above p q a h l = extract_wide p q a (lt_of_lt_of_le h (pow_mono {i = 64} {j = q} l))
+
+pub concat_is : (w v a b : ℕ) → w + v ≤ 64 → a < 2 ^ w → b < 2 ^ v → Words.concat v a b ≡ bit_or (a * 2 ^ v % 2 ^ 64) b
+concat_is w v a b h ha hb = sym (ap (λ (x : ℕ). bit_or x b) (shl_exact w v 64 ha h) ∙ or_shifted a v b hb)
+
+-- ------------------------------------------------------------------------------------------------
+-- What the functions promise
+
+pub widened_below : (w p a : ℕ) → a < 2 ^ w → w ≤ p → negative w a ≡ true → Words.widened w p a ≡ 2 ^ p - 1 - (2 ^ w - 1 - a)
+widened_below w p a h l e = word_widened (reading w a true (sym e) h) l h
+
+pub widened_plain : (w p a : ℕ) → a < 2 ^ w → w ≤ p → negative w a ≡ false → Words.widened w p a ≡ a
+widened_plain w p a h l e = word_widened (reading w a false (sym e) h) l h

@@ -1,10 +1,7 @@
 -- What an operation gives is a word of its width, and what it takes to promise that. Assumes nothing.
-use Rattle.std.proofs.Common.{◌≡◌, ℕ, zero, suc, ◌+◌, ◌-◌, ◌/◌, ◌%◌, ◌^◌, ◌<◌, ◌≤◌, min, max, Bool, true, false, eqb, ℤ, pos, negsuc, sym, ap, ◌∙◌, subst, lt_of_le_of_lt, mod-lt, pow-suc, div-le_self, arith, lit<, pow_pos, pow-add, shr_lt, eq-eqb, ne_eqb}
-use native.Mathlib.Nat.{mod-le}
-use lib.Arith.{digits_lt}
-use Rattle.word.specs.declared.Computed.{Computed}
-use Rattle.word.specs.declared.Computed.TheVariants.{Word, Unknown}
-use Rattle.std.specs.Prelude.{if◌then◌else◌}
+use Rattle.std.proofs.Common.{◌≡◌, ℕ, zero, suc, ◌+◌, ◌-◌, ◌/◌, ◌%◌, ◌^◌, ◌<◌, ◌≤◌, min, max, Bool, true, false, eqb, ℤ, pos, negsuc, sym, ap, ◌∙◌, subst, lt_of_le_of_lt, mod-lt, pow-suc, div-le_self, arith, lit<, pow_pos, pow-add, shr_lt, eq-eqb, ne_eqb, Option, Some, None, if◌then◌else◌}
+use Rattle.std.proofs.Math.Nat.{mod-le}
+use Rattle.std.proofs.Math.Arith.{digits_lt}
 use Rattle.word.specs.Words as Words
 use Rattle.word.specs.Words.{Gives, Computes, FitsIn, bit, bitwise, word_of, unless_zero}
 
@@ -33,7 +30,7 @@ pub rem_fits : (w : ℕ) {a : ℕ} (b : ℕ) → a < 2 ^ w → a % b < 2 ^ w
 rem_fits w {a} b h = lt_of_le_of_lt (mod-le a b) h
 
 pub unless_zero-fits : (w b : ℕ) {r : ℕ} → r < 2 ^ w → FitsIn w (unless_zero b r)
-unless_zero-fits w b {r} h = elim (eqb b 0) as (λ t. FitsIn w (if t then Unknown else Word r)) [ true ↦ tt | false ↦ h ]
+unless_zero-fits w b {r} h = elim (eqb b 0) as (λ t. FitsIn w (if t then None else Some r)) [ true ↦ tt | false ↦ h ]
 
 module _ (f : ℕ → ℕ → ℕ) (f-bit : (x y : ℕ) → x < 2 → y < 2 → f x y < 2) where
   pub bitwise_fits : (w a b : ℕ) → bitwise f w a b < 2 ^ w
@@ -67,14 +64,11 @@ gives {w} e h = record { is = e; fits = subst (λ (n : ℕ). n < 2 ^ w) (sym e) 
 pub gives_too : {w x y r : ℕ} → Gives w x r → x ≡ y → Gives w y r
 gives_too g e = record { is = g.is ∙ e; fits = g.fits }
 
-pub gives_bit : {s : Bool} (t : Bool) → s ≡ t → Gives 1 (bit s) (bit t)
-gives_bit {s} t e = gives (ap bit (sym e)) (bit_fits s)
-
-pub computes : {w : ℕ} {x r : Computed} → r ≡ x → FitsIn w x → Computes w x r
+pub computes : {w : ℕ} {x r : Option ℕ} → r ≡ x → FitsIn w x → Computes w x r
 computes {w} e h = record { is = e; fits = subst (FitsIn w) (sym e) h }
 
-pub by_zero : (w b r : ℕ) → b ≡ 0 → Computes w (unless_zero b r) Unknown
+pub by_zero : (w b r : ℕ) → b ≡ 0 → Computes w (unless_zero b r) None
 by_zero w b r e = record { is = rw (eq-eqb b 0 e); fits = tt }
 
-pub by_nonzero : (w b : ℕ) {r s : ℕ} → (b ≡ 0 → ⊥) → Gives w r s → Computes w (unless_zero b r) (Word s)
-by_nonzero w b n g = record { is = rw (ne_eqb b 0 n) (ap Word g.is); fits = g.fits }
+pub by_nonzero : (w b : ℕ) {r s : ℕ} → (b ≡ 0 → ⊥) → Gives w r s → Computes w (unless_zero b r) (Some s)
+by_nonzero w b n g = record { is = rw (ne_eqb b 0 n) (ap Some g.is); fits = g.fits }

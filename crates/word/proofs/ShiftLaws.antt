@@ -1,10 +1,10 @@
 -- Shifts: by less than the width they are the machine's, and by more what paper 01 says. Assumes nothing.
-use Rattle.std.proofs.Common.{◌≡◌, ℕ, suc, ◌-◌, ◌*◌, ◌/◌, ◌%◌, ◌^◌, ◌<◌, ◌≤◌, min, Bool, true, false, ℤ, refl, ap, ◌∙◌, lt_of_le_of_lt, le_of_lt, div-le_self, arith, pow_pos}
-use native.Mathlib.Nat.{mul-mod_left, div-eq_of_lt, sub-zero, min-eq_left, min-eq_right}
-use lib.Signed.{shr_z}
-use Rattle.std.specs.Prelude.{if◌then◌else◌}
+use Rattle.std.proofs.Common.{◌≡◌, ℕ, suc, ◌-◌, ◌*◌, ◌/◌, ◌%◌, ◌^◌, ◌<◌, ◌≤◌, min, Bool, true, false, ℤ, refl, sym, ap, ◌∙◌, lt_of_le_of_lt, le_of_lt, div-le_self, arith, pow_pos, if◌then◌else◌}
+use Rattle.std.proofs.Math.Nat.{mul-mod_left, div-eq_of_lt, sub-zero, min-eq_left, min-eq_right}
+use Rattle.std.specs.Int.Signed.{shr_z}
 use Rattle.word.specs.Words as Words
-use Rattle.word.specs.Words.{negative, word_of}
+use Rattle.word.specs.Words.{AreWords, Gives, negative, signed, word_of}
+use Rattle.word.proofs.FitLaws.{gives, word_fits}
 use Rattle.word.proofs.SignedLaws.{Reading, plain, below, reading, word_pos, word_negsuc}
 
 -- ------------------------------------------------------------------------------------------------
@@ -42,3 +42,19 @@ asr_wide w a b l h = word_shifted (2 ^ min b w) (reading w a (negative w a) refl
     go : (t : Bool) → (if t then 2 ^ w - 1 - Words.lsr w (2 ^ w - 1 - a) b else Words.lsr w a b) ≡ (if t then 2 ^ w - 1 else 0)
     go true = rw (lsr_wide w (2 ^ w - 1 - a) b (omega (arith, pow_pos w)) h) (sub-zero (2 ^ w - 1))
     go false = lsr_wide w a b l h
+
+-- ------------------------------------------------------------------------------------------------
+-- What the functions promise
+
+-- m is the mask, and r the complement shifted
+pub asr_below : (w a b m r : ℕ) → AreWords w a b → negative w a ≡ true → m ≡ 2 ^ w - 1 → r ≡ Words.lsr w (m - a) b
+    → Gives w (Words.asr w a b) (m - r)
+asr_below w a b m r h e f g =
+    gives
+    (ap (λ (n : ℕ). m - n) g ∙ ap (λ (n : ℕ). n - Words.lsr w (n - a) b) f
+    ∙ sym (word_shifted (2 ^ min b w) (reading w a true (sym e) h.left) h.left))
+    (word_fits w (shr_z (signed w a) (2 ^ min b w)))
+
+pub asr_plain : (w a b : ℕ) → AreWords w a b → negative w a ≡ false → Gives w (Words.asr w a b) (Words.lsr w a b)
+asr_plain w a b h e =
+    gives (sym (word_shifted (2 ^ min b w) (reading w a false (sym e) h.left) h.left)) (word_fits w (shr_z (signed w a) (2 ^ min b w)))

@@ -1,8 +1,7 @@
 -- The signed reading of a word, and the word of an integer. Assumes nothing.
-use Rattle.std.proofs.Common.{◌≡◌, ℕ, zero, suc, ◌-◌, ◌%◌, ◌^◌, ◌<◌, ◌≤◌, Bool, true, false, ℤ, pos, negsuc, nat_abs, sym, refl, ap, ◌∙◌, mod-eq_of_lt, pos_of_ne-zero, arith, pow_pos, le-ltb, lt-ltb, leb-false, leb-true}
-use native.Mathlib.Nat.{mod_self, sub-zero}
-use lib.IntN.{sub_ℕ}
-use Rattle.std.specs.Prelude.{if◌then◌else◌}
+use Rattle.std.proofs.Common.{◌≡◌, ℕ, zero, suc, ◌-◌, ◌%◌, ◌^◌, ◌<◌, ◌≤◌, Bool, true, false, ℤ, pos, negsuc, nat_abs, sym, refl, ap, ◌∙◌, mod-eq_of_lt, pos_of_ne-zero, arith, pow_pos, le-ltb, lt-ltb, leb-false, leb-true, if◌then◌else◌}
+use Rattle.std.proofs.Math.Nat.{mod_self, sub-zero}
+use Rattle.std.proofs.Math.IntN.{sub_ℕ}
 use Rattle.word.specs.Words as Words
 use Rattle.word.specs.Words.{signed, negative, word_of, with_sign}
 
@@ -63,3 +62,11 @@ abs_pos w a l n = go (reading w a (negative w a) refl l)
     go : {z : ℤ} {t : Bool} → Reading w a z t → 0 < nat_abs z
     go (plain h) = pos_of_ne-zero n
     go (below h) = omega arith
+
+-- and a word whose magnitude is not 0 is not 0
+pub abs_nonzero : (w a : ℕ) → a < 2 ^ w → 0 < nat_abs (signed w a) → a ≡ 0 → ⊥
+abs_nonzero w a l p e = go (reading w a (negative w a) refl l) p
+  where
+    go : {z : ℤ} {t : Bool} → Reading w a z t → 0 < nat_abs z → ⊥
+    go (plain h) p = omega arith
+    go (below h) p = omega (arith, pow_pos (w - 1))

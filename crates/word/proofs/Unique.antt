@@ -1,8 +1,7 @@
 -- No second answer fits: the contract of each public function leaves one result. Assumes nothing.
-use Rattle.std.proofs.Common.{◌≡◌, ℕ}
+use Rattle.std.proofs.Common.{◌≡◌, ℕ, Option}
 use Rattle.base.specs.OneAnswer.{OneAnswer}
 use Rattle.base.proofs.Unique.{is_unique}
-use Rattle.word.specs.declared.Computed.{Computed}
 use Rattle.word.specs.Words.{Gives, Computes}
 use Rattle.word.proofs as word
 
@@ -12,7 +11,7 @@ use Rattle.word.proofs as word
 pub gives_unique : {w v x y : ℕ} → Gives w v x → Gives w v y → x ≡ y
 gives_unique p q = is_unique p.is q.is
 
-pub computes_unique : {w : ℕ} {v x y : Computed} → Computes w v x → Computes w v y → x ≡ y
+pub computes_unique : {w : ℕ} {v x y : Option ℕ} → Computes w v x → Computes w v y → x ≡ y
 computes_unique p q = is_unique p.is q.is
 
 -- ------------------------------------------------------------------------------------------------

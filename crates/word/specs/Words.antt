@@ -1,13 +1,10 @@
 -- Words of 1 to 64 bits: what each operation of paper 01 gives.
 -- A word of width w is a number below 2 ^ w, and each operation is arithmetic on such numbers. The comment above a definition
 -- quotes the sentence of paper 01 that it states; `completed` marks what 002 leaves open. Laws about them stand in proofs/. Assumes nothing.
-use Rattle.std.specs.Prelude.{◌≡◌, ℕ, zero, suc, ◌+◌, ◌-◌, ◌*◌, ◌/◌, ◌%◌, ◌^◌, ◌<◌, ◌≤◌, min, max, Bool, true, false, ℤ, pos, negsuc, neg_ℤ, ◌==◌, int_div, int_le, int_lt, int_rem, nat_le, nat_lt}
+use Rattle.std.specs.Prelude.{◌≡◌, ℕ, zero, suc, ◌+◌, ◌-◌, ◌*◌, ◌/◌, ◌%◌, ◌^◌, ◌<◌, ◌≤◌, min, max, Bool, true, false, ℤ, pos, negsuc, neg_ℤ, ◌==◌, int_div, int_le, int_lt, int_rem, nat_le, nat_lt, Option, Some, None, IfSome, if◌then◌else◌}
 use Rattle.std.proofs.Math.Bool as Bool'
 use Rattle.std.proofs.Math.IntN.{sub_ℕ}
 use Rattle.std.specs.Int.Signed.{shr_z}
-use Rattle.std.specs.Prelude.{if◌then◌else◌}
-use Rattle.word.specs.declared.Computed.{Computed}
-use Rattle.word.specs.declared.Computed.TheVariants.{Word, Unknown}
 
 -- ------------------------------------------------------------------------------------------------
 -- Widths and words
@@ -134,30 +131,29 @@ sle w a b = bit (int_le (signed w a) (signed w b))
 -- ------------------------------------------------------------------------------------------------
 -- Division; completed: "Div, sdiv, mod and smod by zero give unknown, since 002 doesn't define them."
 
-abbrev pub unless_zero : ℕ → ℕ → Computed
-unless_zero divisor r = if divisor == 0 then Unknown else Word r
+abbrev pub unless_zero : ℕ → ℕ → Option ℕ
+unless_zero divisor r = if divisor == 0 then None else Some r
 
-abbrev pub div : ℕ → ℕ → Computed
+abbrev pub div : ℕ → ℕ → Option ℕ
 div a b = unless_zero b (a / b)
 
-abbrev pub modulo : ℕ → ℕ → Computed
+abbrev pub modulo : ℕ → ℕ → Option ℕ
 modulo a b = unless_zero b (a % b)
 
 -- "Sdiv rounds toward zero", "the lowest number divided by minus one is itself"
-abbrev pub sdiv : ℕ → ℕ → ℕ → Computed
+abbrev pub sdiv : ℕ → ℕ → ℕ → Option ℕ
 sdiv w a b = unless_zero b (word_of w (int_div (signed w a) (signed w b)))
 
 -- "smod takes the dividend's sign"
-abbrev pub smod : ℕ → ℕ → ℕ → Computed
+abbrev pub smod : ℕ → ℕ → ℕ → Option ℕ
 smod w a b = unless_zero b (word_of w (int_rem (signed w a) (signed w b)))
 
--- a word of width w, or unknown
-abbrev pub FitsIn : ℕ → Computed → Type 0
-FitsIn w (Word r) = r < 2 ^ w
-FitsIn w Unknown = Unit {0}
+-- a word of width w, or unknown, which is None
+abbrev pub FitsIn : ℕ → Option ℕ → Type 0
+FitsIn w r = IfSome r (λ a. a < 2 ^ w)
 
 -- what a function promises that may give unknown: its result r is x, and a word in it is one of width w
-pub record Computes (w : ℕ) (x r : Computed) : Type 0 where
+pub record Computes (w : ℕ) (x r : Option ℕ) : Type 0 where
   pub is : r ≡ x
   pub fits : FitsIn w r
 

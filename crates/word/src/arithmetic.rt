@@ -8,25 +8,23 @@ pub fn plus(w: u32, a: u64, b: u64) -> u64
     requires { AreWords w a b }
     ensures { Gives w (Words.plus w a b) result }
 {
-    trim(w, std::num::wrapping_add_u64(a, b))
+    trim(w, a.wrapping_add(b))
 }
 
+#[tactic(auto, using(crate::proofs::ArithmeticLaws::minus_cut))]
 pub fn minus(w: u32, a: u64, b: u64) -> u64
     requires { AreWords w a b }
     ensures { Gives w (Words.minus w a b) result }
 {
-    trim(w, std::num::wrapping_sub_u64(a, b))
+    trim(w, a.wrapping_sub(b))
 }
 
-// By halves of 32 bits: the product of the upper halves lies above 2^64.
+#[tactic(auto, using(crate::proofs::WidthLaws::cut_twice))]
 pub fn times(w: u32, a: u64, b: u64) -> u64
     requires { AreWords w a b }
     ensures { Gives w (Words.times w a b) result }
 {
-    let a0 = a & 0xffff_ffff;
-    let b0 = b & 0xffff_ffff;
-    let cross = std::num::wrapping_add_u64((a >> 32) * b0, a0 * (b >> 32));
-    trim(w, std::num::wrapping_add_u64(a0 * b0, cross << 32))
+    trim(w, a.wrapping_mul(b))
 }
 
 pub fn neg(w: u32, a: u64) -> u64

@@ -14,6 +14,7 @@ pub fn low(w: u32, p: u32, a: u64) -> u64
     trim(p, a)
 }
 
+#[tactic(auto, using(crate::proofs::FitLaws::high_fits))]
 pub fn high(w: u32, p: u32, a: u64) -> u64
     requires word { IsWord w a }
     requires width { Width p }
@@ -24,6 +25,7 @@ pub fn high(w: u32, p: u32, a: u64) -> u64
 }
 
 // Of a negative word the complement stays, and ones come in above it.
+#[tactic(auto, using(crate::proofs::CastLaws::widened_below, crate::proofs::CastLaws::widened_plain, std::proofs::Common::pow_mono, std::proofs::Common::pow_pos))]
 pub fn signed(w: u32, p: u32, a: u64) -> u64
     requires word { IsWord w a }
     requires width { Width p }
@@ -37,6 +39,7 @@ pub fn signed(w: u32, p: u32, a: u64) -> u64
     }
 }
 
+#[tactic(auto, using(std::proofs::Common::pow_mono))]
 pub fn unsigned(w: u32, p: u32, a: u64) -> u64
     requires word { IsWord w a }
     requires width { Width p }

@@ -1,4 +1,5 @@
 // Paper 01's numbers of the operations on words. specs/Subs.antt has the same numbers beside what they mean.
+// They are no enum: a table's record and a call from C may hold any number, and one that is no sub gives unknown.
 
 // Binary subs.
 pub const PLUS: u32 = 1;

@@ -3,6 +3,7 @@ ghost use Rattle.std.specs.Prelude.{◌≡◌, ◌-◌, ◌%◌, ◌^◌, nat_lt
 ghost use Rattle.word.specs.Words.{Width, IsWord, Gives, negative};
 
 // 2^w - 1: every bit of a word of width w.
+#[tactic(auto, using(crate::proofs::WidthLaws::ones_shifted))]
 pub fn mask(w: u32) -> u64
     requires { Width w }
     ensures { result ≡ 2 ^ w - 1 }
@@ -11,6 +12,7 @@ pub fn mask(w: u32) -> u64
 }
 
 // x modulo 2^w.
+#[tactic(auto, using(crate::proofs::WidthLaws::cut_by_mask, std::proofs::lemmas::Nat::and_le_r, std::proofs::lemmas::Nat::pow_pos))]
 pub fn trim(w: u32, x: u64) -> u64
     requires { Width w }
     ensures { Gives w (x % 2 ^ w) result }
@@ -35,8 +37,9 @@ pub fn negative(w: u32, a: u64) -> bool
 }
 
 // Whether a number needs no more bits than w: 64 less its leading zeros is at most w.
+#[tactic(auto, using(crate::proofs::WidthLaws::length_le_is_fits))]
 pub fn fits(w: u32, x: u64) -> bool
     ensures { result ≡ nat_lt x (2 ^ w) }
 {
-    64 - u64::leading_zeros(x) <= w
+    64 - x.leading_zeros() <= w
 }

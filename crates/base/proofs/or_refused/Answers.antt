@@ -1,10 +1,9 @@
--- Where the first rule accepts the second answers, and where it refuses it does (`answers_next`, `refuses_here`). Assumes nothing.
 use Rattle.std.proofs.Common.{[], ◌∷◌}
-use Rattle.base.proofs.RefusalLaws.{refuses_here, answers_next}
+use Rattle.base.proofs.RefusalLaws.{refuses_on, answers_next}
 use Rattle.base.proofs.or_refused.Goals as goal
 
-pub returns-in-Accepted : goal.returns-in-Accepted
-returns-in-Accepted c a b first second = answers_next (a ∷ []) (b ∷ []) first c.in-Accepted.is second
+pub returns-in_err-first : goal.returns-in_err-first
+returns-in_err-first c a b first second = refuses_on (a ∷ []) (b ∷ []) first c.in_err-first.was c.from_residual.ensures
 
-pub returns-in-Refused : goal.returns-in-Refused
-returns-in-Refused c a b first second = refuses_here (a ∷ []) (b ∷ []) first c.in-Refused.is
+pub returns : goal.returns
+returns c a b first second = answers_next (a ∷ []) (b ∷ []) first c.in_ok-first.was second

@@ -1,17 +1,15 @@
 -- The run's line, then the variables'. Assumes nothing.
-use mathlib.Core.Path.{subst}
-use mathlib.Core.List.{List}
-use Prim.Native.Nat.{ℕ}
-use native.Mathlib.Omega.{arith}
-use Rattle.report.specs.Placed.{Adds}
-use Rattle.report.proofs.PlacedLaws.{then_adds, adds_wider}
+use Rattle.std.proofs.Common.{subst, List, ℕ, arith}
+use Rattle.report.specs.Placed.{Puts}
+use Rattle.report.proofs.PlacedLaws.{then_puts, wider}
+use Rattle.bilrun.specs.Report.{longest_ran}
 use Rattle.bilrun.proofs.ReportLaws.{gives_started, ran_text}
 use Rattle.bilrun.proofs.ran.Goals as goal
 
 pub returns : goal.returns
 returns c =
-    let g = gives_started c.args.table.now c.args.state.now c.args.log.now c.requires.framed.is c.requires.state_value c.requires.log_value c.run-o.ensures in
-    let most = c.requires.framed.variables in
-    let text = ran_text c.args.table.now c.requires.framed.is g c.code_of.ensures c.place_of.ensures in
-    subst (λ (t : List ℕ). Adds 13677 c.args.out.now c.args.at t c.variable_lines.new.out c.variable_lines.result) text
-    (adds_wider (then_adds c.run_line-told.ensures c.variable_lines.ensures) (omega arith))
+    let g = gives_started c.args.frame.now.bytes.now c.args.state.now c.args.log.now c.args.frame.now.framed.is c.requires.state_value c.requires.log_value c.run-o.ensures in
+    let most = c.args.frame.now.framed.variables in
+    let text = ran_text c.args.frame.now.bytes.now c.args.frame.now.framed.is g c.code_of.ensures c.place_of.ensures in
+    subst (λ (t : List ℕ). Puts longest_ran c.args.out.now t c.variable_lines.new.out) text
+    (wider (then_puts c.run_line.ensures c.variable_lines.ensures) (omega arith))

@@ -1,24 +1,31 @@
 -- The verdict's line, and more where it accepts. Assumes nothing.
-use mathlib.Core.Path.{sym, subst, ◌∙◌}
-use mathlib.Core.List.{List}
-use Prim.Native.Nat.{ℕ}
-use native.Mathlib.Omega.{arith}
+use Rattle.std.proofs.Common.{refl, sym, ap, subst, ◌∙◌, List, ℕ, Bor, arith}
 use Rattle.report.specs.Lines.{verdict_word}
-use Rattle.report.specs.Placed.{Adds}
-use Rattle.report.proofs.PlacedLaws.{then_adds, adds_wider}
+use Rattle.report.specs.Placed.{Puts}
+use Rattle.report.proofs.PlacedLaws.{then_puts, wider}
+use Rattle.typing.specs.Verdict.{check}
+use Rattle.base.specs.Refusals.{Accepted}
+use Rattle.bilrun.specs.Report.{longest_accepted, longest_report}
+use Rattle.bilrun.specs.Report as Report
 use Rattle.bilrun.proofs.ReportLaws.{answer_text, report_accepted, report_refused}
 use Rattle.bilrun.proofs.report.Goals as goal
 
-pub returns-in-Accepted : goal.returns-in-Accepted
-returns-in-Accepted c =
-    let line = answer_text verdict_word c.check-verdict.ensures c.code_of.ensures c.place_of.ensures in
-    let good = sym c.check-verdict.ensures ∙ c.in-Accepted.is in
-    subst (λ (t : List ℕ). Adds 13777 c.args.out.now 0 t c.accepted.new.out c.accepted.result) (report_accepted c.args.table.now line good)
-    (then_adds c.answer_line-at.ensures c.accepted.ensures)
+pub accepted-requires-in-Ok-clause-table_value : goal.accepted-requires-in-Ok-clause-table_value
+accepted-requires-in-Ok-clause-table_value c = ap (λ (b : Bor (List ℕ)). check b.now) c.in-Ok.ensures.bytes ∙ sym c.in-Ok.ensures.answer
 
-pub returns-in-Refused : goal.returns-in-Refused
-returns-in-Refused c =
-    let line = answer_text verdict_word c.check-verdict.ensures c.code_of.ensures c.place_of.ensures in
-    let bad = sym c.check-verdict.ensures ∙ c.in-Refused.is in
-    subst (λ (t : List ℕ). Adds 13777 c.args.out.now 0 t c.answer_line-at.new.out c.answer_line-at.result) (report_refused c.args.table.now line bad)
-    (adds_wider c.answer_line-at.ensures (omega arith))
+pub returns-in-Ok : goal.returns-in-Ok
+returns-in-Ok c =
+    let s = c.args.table.now in
+    let line = answer_text verdict_word c.in-Ok.ensures.answer refl refl in
+    let more =
+    subst (λ (b : Bor (List ℕ)). Puts longest_accepted c.answer_line.new.out (Report.accepted b.now) c.accepted-in-Ok.new.out) c.in-Ok.ensures.bytes
+    c.accepted-in-Ok.ensures in
+    subst (λ (t : List ℕ). Puts longest_report c.args.out.now t c.accepted-in-Ok.new.out) (report_accepted s line (sym c.in-Ok.ensures.answer))
+    (then_puts c.answer_line.ensures more)
+
+pub returns-in-Err : goal.returns-in-Err
+returns-in-Err c =
+    let s = c.args.table.now in
+    let line = answer_text verdict_word c.in-Err.ensures.answer c.number.ensures refl in
+    subst (λ (t : List ℕ). Puts longest_report c.args.out.now t c.answer_line-in-Err.new.out) (report_refused s line (sym c.in-Err.ensures.answer))
+    (wider c.answer_line-in-Err.ensures (omega arith))

@@ -1,27 +1,32 @@
 -- `reads`: the frame, and the records where it holds. Assumes nothing.
-use mathlib.Core.Path.{sym, ◌∙◌, subst}
-use native.Mathlib.Omega.{arith}
-use Rattle.base.proofs.RefusalLaws.{refuses_here, answers_next}
-use Rattle.table.specs.Records.{header_rules, record_rules, Framed}
-use Rattle.table.proofs.FrameLaws.{framed}
+use Rattle.std.proofs.Common.{◌≡◌, sym, ap, refl, ◌∙◌, List, ℕ, Bor}
+use Rattle.base.specs.Refusals.{refusal}
+use Rattle.base.proofs.RefusalLaws.{accepted_iff, hands_on, refuses_here, answers_next}
+use Rattle.table.specs.Records.{header_rules, record_rules}
+use Rattle.table.proofs.RecordLaws.{records_hold_iff}
 use Rattle.reader.proofs.reads.Goals as goal
 
-pub header-requires : goal.header-requires
-header-requires c =
-    let frame = framed c.args.s.now (sym c.framing.ensures ∙ c.in-Accepted.is) in
-    omega (arith, frame.whole)
+-- the rules of the records are those of the table that is lent
+same : {b t : Bor (List ℕ)} → b ≡ t → refusal (record_rules b.now) ≡ refusal (record_rules t.now)
+same e = ap (λ (b : Bor (List ℕ)). refusal (record_rules b.now)) e
 
-pub records_hold-requires : goal.records_hold-requires
-records_hold-requires c =
+pub returns-in_err-frame-clause-answer : goal.returns-in_err-frame-clause-answer
+returns-in_err-frame-clause-answer c =
     let s = c.args.s.now in
-    subst (Framed s) (sym c.header.ensures) (framed s (sym c.framing.ensures ∙ c.in-Accepted.is))
+    hands_on _ (refuses_here (header_rules s) (record_rules s) c.in_err-frame.ensures.answer refl) c.from_residual.ensures
 
-pub returns-in-Refused : goal.returns-in-Refused
-returns-in-Refused c =
+pub returns-in_err-records_hold-clause-answer : goal.returns-in_err-records_hold-clause-answer
+returns-in_err-records_hold-clause-answer c =
     let s = c.args.s.now in
-    refuses_here (header_rules s) (record_rules s) c.framing.ensures c.in-Refused.is
+    answers_next (header_rules s) (record_rules s) c.in_ok-frame.ensures.answer refl
+    (hands_on _ (c.in_err-records_hold.ensures ∙ same c.in_ok-frame.ensures.bytes) c.from_residual-in_err-records_hold.ensures)
 
-pub returns-in-Accepted : goal.returns-in-Accepted
-returns-in-Accepted c =
+pub invariant_of-result : goal.invariant_of-result
+invariant_of-result c =
+    let t = c.in_ok-frame.frame.bytes.now in
+    record { records = (records_hold_iff t).0 ((accepted_iff (record_rules t)).0 (sym c.in_ok-records_hold.ensures)) }
+
+pub returns-clause-answer : goal.returns-clause-answer
+returns-clause-answer c =
     let s = c.args.s.now in
-    answers_next (header_rules s) (record_rules s) c.framing.ensures c.in-Accepted.is c.records_hold.ensures
+    answers_next (header_rules s) (record_rules s) c.in_ok-frame.ensures.answer refl (c.in_ok-records_hold.ensures ∙ same c.in_ok-frame.ensures.bytes)

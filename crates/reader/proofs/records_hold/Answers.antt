@@ -1,36 +1,31 @@
 -- `records_hold`: one rule after the other, each asked where those before it hold. Assumes nothing.
-use mathlib.Core.Path.{◌≡◌}
-use mathlib.Core.List.{List, [], ◌∷◌}
-use Prim.Native.Nat.{ℕ}
-use Rattle.base.specs.Refusals.{Rule, refusal}
-use Rattle.base.specs.declared.Answer.{Answer}
-use Rattle.base.specs.declared.Answer.TheVariants.{Accepted}
-use Rattle.base.proofs.RefusalLaws.{refuses_here, answers_next}
+use Rattle.std.proofs.Common.{◌≡◌, List, [], ◌∷◌, ℕ}
+use Rattle.base.specs.Refusals.{Accepted, Answer, refusal}
+use Rattle.base.proofs.RefusalLaws.{refuses_on, answers_next}
 use Rattle.table.specs.Records.{variable_rule, expression_rule, statement_rule, record_rules}
 use Rattle.reader.proofs.records_hold.Goals as goal
 
-abbrev later : List ℕ → List Rule
-later s = expression_rule s ∷ statement_rule s ∷ []
-
 -- past the variables the later rules answer
-past : (s : List ℕ) {r x : Answer} → r ≡ refusal (variable_rule s ∷ []) → r ≡ Accepted → x ≡ refusal (later s) → x ≡ refusal (record_rules s)
+past : (s : List ℕ) {r x : Answer} → r ≡ refusal (variable_rule s ∷ []) → r ≡ Accepted
+    → x ≡ refusal (expression_rule s ∷ statement_rule s ∷ []) → x ≡ refusal (record_rules s)
 unfolding record_rules
-past s = answers_next (variable_rule s ∷ []) (later s)
+past s = answers_next (variable_rule s ∷ []) (expression_rule s ∷ statement_rule s ∷ [])
 
-pub returns-in-Refused : goal.returns-in-Refused
+pub returns-in_err-variables : goal.returns-in_err-variables
 unfolding record_rules
-returns-in-Refused c =
-    let s = c.args.s.now in
-    refuses_here (variable_rule s ∷ []) (later s) c.variables.ensures c.in-Refused.is
+returns-in_err-variables c =
+    let s = c.args.frame.now.bytes.now in
+    refuses_on (variable_rule s ∷ []) (expression_rule s ∷ statement_rule s ∷ []) c.variables.ensures c.in_err-variables.was c.from_residual.ensures
 
-pub returns-in-Refused-expressions : goal.returns-in-Refused-expressions
-returns-in-Refused-expressions c =
-    let s = c.args.s.now in
-    past s c.variables.ensures c.in-Accepted.is
-    (refuses_here (expression_rule s ∷ []) (statement_rule s ∷ []) c.expressions.ensures c.in-Refused-expressions.is)
+pub returns-in_err-expressions : goal.returns-in_err-expressions
+returns-in_err-expressions c =
+    let s = c.args.frame.now.bytes.now in
+    past s c.variables.ensures c.in_ok-variables.was
+    (refuses_on (expression_rule s ∷ []) (statement_rule s ∷ []) c.expressions.ensures c.in_err-expressions.was
+    c.from_residual-in_err-expressions.ensures)
 
-pub returns-in-Accepted-expressions : goal.returns-in-Accepted-expressions
-returns-in-Accepted-expressions c =
-    let s = c.args.s.now in
-    past s c.variables.ensures c.in-Accepted.is
-    (answers_next (expression_rule s ∷ []) (statement_rule s ∷ []) c.expressions.ensures c.in-Accepted-expressions.is c.statements.ensures)
+pub returns : goal.returns
+returns c =
+    let s = c.args.frame.now.bytes.now in
+    past s c.variables.ensures c.in_ok-variables.was
+    (answers_next (expression_rule s ∷ []) (statement_rule s ∷ []) c.expressions.ensures c.in_ok-expressions.was c.statements.ensures)

@@ -5,8 +5,8 @@ use Prim.Native.Nat.{◌≤◌, ◌<◌, ◌-◌}
 use Rattle.forest.specs.Forest.{in_body_of}
 use Rattle.scope.proofs.in_body.Given as goal
 
-abbrev pub invariant-loop-k : goal.invariant-loop-k
-invariant-loop-k l = (l.i ≤ l.k) × (l.k < l.h.expressions) × (in_body_of l.s l.x l.i ≡ in_body_of l.s l.x l.k)
+abbrev pub invariant-loop-m : goal.invariant-loop-m
+invariant-loop-m l = (l.i ≤ l.k) × (l.k < l.frame.header.expressions) × (in_body_of l.frame.bytes.now l.x l.i ≡ in_body_of l.frame.bytes.now l.x l.k)
 
-abbrev pub decreases-loop-k : goal.decreases-loop-k
-decreases-loop-k l = l.h.expressions - l.k
+abbrev pub decreases-loop-m : goal.decreases-loop-m
+decreases-loop-m l = l.frame.header.expressions - l.k

@@ -1,31 +1,12 @@
--- `store_all`: one store after the other, each operand with its place. Assumes nothing.
-use mathlib.Core.Path.{◌≡◌, subst, sym}
-use mathlib.Core.List.{List}
-use Prim.Native.Nat.{ℕ}
-use Rattle.forest.specs.declared.operands.Operands.{Operands}
-use Rattle.forest.specs.Counting.{listed}
-use Rattle.scope.specs.Scoping.{Stored}
-use Rattle.scope.proofs.HandingLaws.{stored_none, stored_then}
-use Rattle.forest.proofs.OperandLaws.{below_case, first_below, rest_below}
+-- `store_all`: each operand has its place, and v is stored there. Assumes nothing.
+use Rattle.scope.proofs.HandingLaws.{storing_next, storing_place, storing_last}
 use Rattle.scope.proofs.store_all.Goals as goal
 
--- what is stored at the operands of a case is stored at those of what is that case
-done : {v : ℕ} {before after : List ℕ} {o p : Operands} → o ≡ p → Stored v (listed p) before after → Stored v (listed o) before after
-done {v} {before} {after} e = subst (λ (o : Operands). Stored v (listed o) before after) (sym e)
+pub bounds-lets-k : goal.bounds-lets-k
+bounds-lets-k c = storing_place c.loop-k.invariant c.in-Some.ensures.steps
 
-pub store-requires-in-Three-3 : goal.store-requires-in-Three-3
-store-requires-in-Three-3 c =
-    let o = c.in-Three.is in
-    rw (c.store-in-Three-2.ensures.long, c.store-in-Three.ensures.long)
-    (first_below (rest_below (rest_below (below_case o c.requires))))
+pub loop-k-preserved : goal.loop-k-preserved
+loop-k-preserved c = storing_next c.loop-k.invariant c.in-Some.ensures.steps
 
-pub returns-in-Two : goal.returns-in-Two
-returns-in-Two c = done c.in-Two.is (stored_then c.store-in-Two.ensures c.store-in-Two-2.ensures)
-
-pub returns-in-Three : goal.returns-in-Three
-returns-in-Three c =
-    done c.in-Three.is
-    (stored_then c.store-in-Three.ensures (stored_then c.store-in-Three-2.ensures c.store-in-Three-3.ensures))
-
-pub returns-in-Leaf : goal.returns-in-Leaf
-returns-in-Leaf c = done c.in-Leaf.is stored_none
+pub returns : goal.returns
+returns c = storing_last c.loop-k.invariant c.in-None.ensures.steps.0

@@ -14,4 +14,4 @@ returns c =
     let size =
     c.first_size.ensures.0 ∙ ap (λ (r : Node). if eqb r.op 5 || eqb r.op 6 then r.b else 0) c.statement-r.ensures
     in
-    (omega (arith, size), omega (arith, c.requires.framed.statements))
+    (omega (arith, size), omega (arith, c.args.frame.now.framed.statements))

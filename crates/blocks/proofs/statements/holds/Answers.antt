@@ -6,5 +6,5 @@ use Rattle.blocks.proofs.statements.holds.Goals as goal
 
 pub returns : goal.returns
 returns c =
-    rule_by_parts c.args.s.now c.args.i (ap (λ (h : Header). h.expressions) c.requires.framed.is) c.statement-r.ensures
+    rule_by_parts c.args.frame.now.bytes.now c.args.i (ap (λ (h : Header). h.expressions) c.args.frame.now.framed.is) c.statement-r.ensures
     c.fields_ok-named.ensures c.second_end-end.ensures c.block_end-around.ensures

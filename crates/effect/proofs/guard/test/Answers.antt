@@ -1,17 +1,18 @@
 -- `guard::test`: by what the evaluation gave. Assumes nothing.
-use mathlib.Core.Path.{sym, ap, ◌∙◌}
-use Rattle.effect.proofs.LeavingLaws.{tested_by, test_leaves}
+use Rattle.std.proofs.Common.{Bool, refl}
+use Rattle.std.specs.Prelude.{Result}
+use Rattle.base.specs.declared.codes.Stop.{Stop}
+use Rattle.effect.specs.Leaving.{TestLeaves, evaluated}
+use Rattle.effect.proofs.LeavingLaws.{handed, test_leaves}
 use Rattle.effect.proofs.guard.test.Goals as goal
 
-pub whole-v-requires : goal.whole-v-requires
-whole-v-requires c = record { ready = c.requires.ready; i_bound = c.requires.e_bound }
-
-pub returns-in-Of : goal.returns-in-Of
-returns-in-Of c =
+pub returns-in_err-whole : goal.returns-in_err-whole
+returns-in_err-whole c =
     let a = c.args in
-    test_leaves a.s.now a.state.now a.count a.e c.whole-v.ensures (c.by_value.ensures ∙ sym (ap tested_by c.in-Of.is))
+    handed (λ (r : Result Bool Stop). TestLeaves a.log.now (evaluated a.table.now.frame.bytes.now a.state.now a.log.now a.e) r c.whole.new.log) c.from_residual.ensures
+    (test_leaves a.table.now.frame.bytes.now a.state.now a.e c.in_err-whole.ensures refl)
 
-pub returns-in-Stopped : goal.returns-in-Stopped
-returns-in-Stopped c =
+pub returns : goal.returns
+returns c =
     let a = c.args in
-    test_leaves a.s.now a.state.now a.count a.e c.whole-v.ensures (sym (ap tested_by c.in-Stopped.is))
+    test_leaves a.table.now.frame.bytes.now a.state.now a.e c.in_ok-whole.ensures c.by_value.ensures

@@ -10,26 +10,26 @@ use Rattle.execute.proofs.LoopLaws.{Going}
 use Rattle.execute.proofs.turns.+block_statement_turns.Given as goal
 
 abbrev pub decreases-block : goal.decreases-block
-decreases-block l = 3 * l.ticks + 2
+decreases-block l = 3 * l.machine.now.ticks + 2
 
 abbrev pub decreases-statement : goal.decreases-statement
-decreases-statement l = 3 * l.ticks + 1
+decreases-statement l = 3 * l.machine.now.ticks + 1
 
 abbrev pub decreases-turns : goal.decreases-turns
-decreases-turns l = 3 * l.ticks
+decreases-turns l = 3 * l.machine.now.ticks
 
 abbrev pub invariant-block-loop-i : goal.invariant-block-loop-i
 invariant-block-loop-i l =
-    Going l.s l.initial.log l.count l.ticks (runs l.s l.initial.state l.initial.log l.count l.next l.ticks (block_at l.s l.from l.size)) l.end l.i
-    l.state l.log l.n l.a l.t
+    Going l.table.frame.bytes.now l.initial.machine l.initial.machine.ticks (runs l.table.frame.bytes.now l.initial.machine l.initial.machine.ticks (block_at l.table.frame.bytes.now l.from l.size)) l.end l.i l.machine
 
 abbrev pub decreases-block-loop-i : goal.decreases-block-loop-i
 decreases-block-loop-i l = l.end - l.i
 
-abbrev pub invariant-turns-loop-t : goal.invariant-turns-loop-t
-invariant-turns-loop-t l =
-    Came l.s l.initial.log l.count l.ticks (runs l.s l.initial.state l.initial.log l.count l.next l.ticks (block_at l.s l.i (suc (bodies_of l.r))))
-    (block_at l.s l.i (suc (bodies_of l.r))) l.state l.log l.n l.a l.t
+abbrev pub invariant-turns-loop-machine : goal.invariant-turns-loop-machine
+invariant-turns-loop-machine l =
+    Came l.table.frame.bytes.now l.initial.machine l.initial.machine.ticks
+    (runs l.table.frame.bytes.now l.initial.machine l.initial.machine.ticks (block_at l.table.frame.bytes.now l.i (suc (bodies_of l.r)))) (block_at l.table.frame.bytes.now l.i (suc (bodies_of l.r))) l.machine
+    l.machine.ticks
 
-abbrev pub decreases-turns-loop-t : goal.decreases-turns-loop-t
-decreases-turns-loop-t l = l.t
+abbrev pub decreases-turns-loop-machine : goal.decreases-turns-loop-machine
+decreases-turns-loop-machine l = l.machine.ticks

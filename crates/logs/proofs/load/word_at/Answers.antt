@@ -1,8 +1,7 @@
--- The bytes read so far make the word so far, and the next stands at the address in hand; the measure is how many are left. Assumes nothing.
-use Rattle.std.proofs.Common.{◌≡◌, ◌/◌, ◌≤◌}
+-- The bytes read so far make the word so far, and the next stands at the address in hand. Assumes nothing.
+use Rattle.std.proofs.Common.{◌/◌, ◌≤◌}
 use Rattle.memory.specs.Log.{entries, chain, unknown_byte}
-use Rattle.memory.specs.Access.{succ, byte_at, loaded}
-use Rattle.logs.specs.Joining.{Joins}
+use Rattle.memory.specs.Access.{byte_at, loaded}
 use Rattle.logs.proofs.JoinLaws.{reading_starts, reading_fits, reading_stops, reading_on, reading_ends, load_joined}
 use Rattle.logs.proofs.load.word_at.Goals as goal
 
@@ -29,18 +28,13 @@ with_byte-v-requires-clause-v_bound c =
 pub loop-i-preserved : goal.loop-i-preserved
 loop-i-preserved c =
     let s = c.args in
-    let l = c.loop-i in
     let cells = chain (entries s.log.now s.count) s.head in
-    let byte : c.byte_at-b.result ≡ byte_at cells l.at = c.byte_at-b.ensures in
-    let joins : Joins s.big l.i l.v (byte_at cells l.at) c.with_byte-v.result = rw byte at c.with_byte-v.ensures in
-    let address : c.above-at.result ≡ succ s.w l.at = c.above-at.ensures.is in
-    let read = reading_on cells s.w (s.z / 8) s.a s.big l.invariant.1 c.loop-i-test.true joins in
-    (c.above-at.ensures.fits, rw address read)
+    let read = reading_on cells s.w (s.z / 8) s.a s.big c.loop-i.invariant.1 c.loop-i-test.true (rw c.byte_at-b.ensures at c.with_byte-v.ensures) in
+    (c.above-at.ensures.fits, rw c.above-at.ensures.is read)
 
 pub returns : goal.returns
 unfolding loaded
 returns c =
     let s = c.args in
-    let l = c.loop-i in
     load_joined (entries s.log.now s.count) s.z s.big s.w s.head s.w s.a
-    (reading_ends (chain (entries s.log.now s.count) s.head) s.w (s.z / 8) s.a s.big l.invariant.1 c.loop-i-test.false)
+    (reading_ends (chain (entries s.log.now s.count) s.head) s.w (s.z / 8) s.a s.big c.loop-i.invariant.1 c.loop-i-test.false)

@@ -1,9 +1,9 @@
 -- A word shifted down to its byte; unknown bytes of what is no word. Assumes nothing.
-use Rattle.std.proofs.Common.{◌≡◌, ℕ, ◌-◌, ◌*◌, ◌/◌, ◌^◌, Bool, get_or, sym, refl, ◌∙◌, ap₂}
+use Rattle.std.proofs.Common.{◌≡◌, ℕ, ◌-◌, ◌*◌, ◌/◌, ◌^◌, Bool, get_or, sym, ◌∙◌, ap₂}
 use lib.Bits.{and_mask}
 use Rattle.value.specs.declared.Value.{Value}
 use Rattle.memory.specs.Access.{bytes_in}
-use Rattle.logs.proofs.BytesLaws.{byte_little, byte_big, byte_unknown, byte_memory}
+use Rattle.logs.proofs.BytesLaws.{byte_little, byte_big, byte_other}
 use Rattle.logs.proofs.store.byte_of.Goals as goal
 
 -- the byte that is asked for, by what the order and the value are
@@ -23,12 +23,5 @@ returns-else-big c =
     let v = c.in-Word.v in
     done s.z s.i (and_mask (v / 2 ^ (8 * s.i)) 8 ∙ sym (byte_little c.requires.size_ok c.requires.i_bound _ v)) c.if-big.false c.in-Word.is
 
-pub returns-in-Unknown : goal.returns-in-Unknown
-returns-in-Unknown c =
-    let s = c.args in
-    done s.z s.i {big = s.big} (sym (byte_unknown c.requires.size_ok c.requires.i_bound s.big _)) refl c.in-Unknown.is
-
-pub returns-in-Memory : goal.returns-in-Memory
-returns-in-Memory c =
-    let s = c.args in
-    done s.z s.i {big = s.big} (sym (byte_memory c.requires.size_ok c.requires.i_bound s.big _ _)) refl c.in-Memory.is
+pub returns-in_default : goal.returns-in_default
+returns-in_default c = byte_other c.requires.size_ok c.requires.i_bound c.args.big c.args.value c.in_default.not-Word

@@ -1,25 +1,24 @@
--- `after::three`: by what the third operand gave. Assumes nothing.
-use mathlib.Core.Path.{sym, ap, subst}
-use Rattle.evaluation.specs.Evaluation.{Evaluated}
-use Rattle.operation.specs.After.{three_after}
-use Rattle.operation.specs.Outcome.{Leaves}
-use Rattle.operation.proofs.OutcomeLaws.{leaves_stop}
+-- `after::three`: what stands under its op. Assumes nothing.
+use Rattle.std.proofs.Common.{◌≡◌, refl}
+use Rattle.base.proofs.NumberedLaws.{numbered_other}
+use Rattle.value.specs.Values as Values
+use Rattle.memory.specs.Buffer.{held, room_of}
+use Rattle.evaluation.specs.Evaluation.{value}
+use Rattle.operation.specs.ByOp.{no_value, threes, three_value}
+use Rattle.operation.proofs.OutcomeLaws.{leaves_value}
 use Rattle.operation.proofs.after.three.Goals as goal
 
-pub of_three-requires : goal.of_three-requires
-of_three-requires c =
-    let p = c.requires in
-    let e = c.in-Of.is in
-    record { holds = p.holds _ _ e; three_fits = p.fits _ _ e }
-
-pub returns-in-Of : goal.returns-in-Of
-returns-in-Of c =
+pub returns-in-10 : goal.returns-in-10
+unfolding three_value threes
+returns-in-10 c =
     let a = c.args in
-    subst (λ (x : Evaluated). Leaves a.log.now x c.of_three.result c.of_three.new.log)
-    (sym (ap (three_after a.log.now a.r a.x a.y) c.in-Of.is)) c.of_three.ensures
+    let ite : three_value (room_of a.log.now) (held a.log.now) a.r a.x a.y a.z ≡ value (Values.choose a.z a.y a.x) (held a.log.now) = rw c.in-10.is refl in
+    leaves_value c.requires.holds.room ite c.choose.ensures.is
 
-pub returns-in-Stopped : goal.returns-in-Stopped
-returns-in-Stopped c =
+pub returns-in_default : goal.returns-in_default
+unfolding three_value threes
+returns-in_default c =
     let a = c.args in
-    let e = c.in-Stopped.is in
-    leaves_stop (c.requires.room _ _ e) (ap (three_after a.log.now a.r a.x a.y) e)
+    let none : three_value (room_of a.log.now) (held a.log.now) a.r a.x a.y a.z ≡ value no_value (held a.log.now) =
+    rw (numbered_other (Unit {0}) (λ room L r x y z. value no_value L) threes a.r.op c.in_default.in_default-own.rest) refl in
+    leaves_value c.requires.holds.room none refl

@@ -1,22 +1,7 @@
--- `after::two`: by what the second operand gave. Assumes nothing.
-use mathlib.Core.Path.{sym, ap, ◌∙◌}
-use Rattle.value.specs.declared.Value.{Value}
-use Rattle.operation.specs.declared.Evaluated.TheVariants.{Of}
-use Rattle.operation.specs.After.{two_after}
+-- `after::two`: what stands under its op. Assumes nothing.
+use Rattle.operation.specs.ByOp.{twos, two_value}
 use Rattle.operation.proofs.after.two.Goals as goal
 
-pub of_two-requires : goal.of_two-requires
-of_two-requires c =
-    let p = c.requires in
-    let e = c.in-Of.is in
-    record { holds = p.holds _ _ e; two_fits = p.fits _ _ e }
-
-pub returns-in-Of : goal.returns-in-Of
-returns-in-Of c =
-    let a = c.args in
-    ap (λ (v : Value). Of v c.in-Of.n) c.of_two.ensures ∙ sym (ap (two_after a.log.now a.r a.x) c.in-Of.is)
-
-pub returns-in-Stopped : goal.returns-in-Stopped
-returns-in-Stopped c =
-    let a = c.args in
-    sym (ap (two_after a.log.now a.r a.x) c.in-Stopped.is)
+pub returns-in-12 : goal.returns-in-12
+unfolding two_value twos
+returns-in-12 c = rw c.in-12.is c.concat.ensures.is

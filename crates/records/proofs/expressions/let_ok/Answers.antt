@@ -9,4 +9,4 @@ pub returns : goal.returns
 unfolding expression_rows field_ok
 returns c =
     let bound = c.variable_of.ensures in
-    by_row c.args.s.now c.args.i 8 c.args.n c.requires.op_value c.all.ensures refl refl refl bound refl refl refl
+    by_row c.args.frame.now.bytes.now c.args.i 8 c.args.n c.requires c.all.ensures refl refl refl bound refl refl refl

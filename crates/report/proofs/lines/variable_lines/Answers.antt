@@ -1,27 +1,20 @@
 -- Before the first variable nothing is put; a variable's line goes behind the lines of those before it. Assumes nothing.
-use mathlib.Core.Path.{◌≡◌, subst}
-use Prim.Native.Nat.{ℕ, suc, ◌+◌, ◌*◌}
-use native.Mathlib.Omega.{arith}
-use Rattle.report.specs.Lines.{variable_lines}
-use Rattle.report.specs.Placed.{Adds}
-use Rattle.report.proofs.PlacedLaws.{then_adds, adds_none, adds_wider}
+use Rattle.std.proofs.Common.{◌≡◌, subst, ℕ, suc, ◌+◌, ◌*◌, arith}
+use Rattle.report.specs.Lines.{variable_lines, longest_variable}
+use Rattle.report.specs.Placed.{Puts}
+use Rattle.report.proofs.PlacedLaws.{then_puts, puts_none, wider}
 use Rattle.report.proofs.lines.variable_lines.Goals as goal
 
 pub loop-x-init : goal.loop-x-init
 unfolding variable_lines
-loop-x-init c = (omega arith, adds_none c.args.out.now c.args.at)
+loop-x-init c = puts_none c.args.out.now
 
 pub loop-x-preserved : goal.loop-x-preserved
 unfolding variable_lines
 loop-x-preserved c =
-    let l = c.loop-x in
-    let x = l.x in
-    let more = c.loop-x-test.true in
+    let x = c.loop-x.x in
     let next : suc x ≡ x + 1 = omega arith in
-    let put : Adds (53 * x + 53) c.args.out.now c.args.at (variable_lines c.args.table.now c.args.state.now (suc x)) c.line_of-end.new.out c.line_of-end.result =
-    then_adds l.invariant.1 c.line_of-end.ensures in (
-      omega arith,
-      subst
-          (λ (k : ℕ). Adds (53 * (x + 1)) c.args.out.now c.args.at (variable_lines c.args.table.now c.args.state.now k) c.line_of-end.new.out c.line_of-end.result)
-          next (adds_wider put (omega arith)),
-    )
+    let put : Puts (longest_variable * x + longest_variable) c.args.out.now (variable_lines c.args.frame.now.bytes.now c.args.state.now (suc x)) c.line_of.new.out =
+    then_puts c.loop-x.invariant c.line_of.ensures in
+    subst (λ (k : ℕ). Puts (longest_variable * (x + 1)) c.args.out.now (variable_lines c.args.frame.now.bytes.now c.args.state.now k) c.line_of.new.out) next
+    (wider put (omega arith))

@@ -1,11 +1,8 @@
--- So far the lines of the first x variables stand in the buffer; the measure is how many variables are left. Assumes nothing.
-use Prim.Native.Nat.{◌*◌, ◌-◌, ◌≤◌}
-use Rattle.report.specs.Lines.{variable_lines}
-use Rattle.report.specs.Placed.{Adds}
+-- So far the lines of the first x variables are put. Assumes nothing.
+use Rattle.std.proofs.Common.{◌*◌}
+use Rattle.report.specs.Lines.{variable_lines, longest_variable}
+use Rattle.report.specs.Placed.{Puts}
 use Rattle.report.proofs.lines.variable_lines.Given as goal
 
 abbrev pub invariant-loop-x : goal.invariant-loop-x
-invariant-loop-x l = (l.x ≤ l.h.variables) × Adds (53 * l.x) l.initial.out l.at (variable_lines l.table l.state l.x) l.out l.end
-
-abbrev pub decreases-loop-x : goal.decreases-loop-x
-decreases-loop-x l = l.h.variables - l.x
+invariant-loop-x l = Puts (longest_variable * l.x) l.initial.out (variable_lines l.frame.bytes.now l.state l.x) l.out

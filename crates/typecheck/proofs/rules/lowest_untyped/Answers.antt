@@ -1,23 +1,6 @@
--- `typecheck::rules::lowest_untyped`: the invariant is that every expression passed has a type, the measure what is left of them.
--- Assumes nothing.
-use mathlib.Core.Path.{refl, ap}
-use Rattle.base.proofs.PassedLaws.{none_passed, one_passed, refuses, accepts}
-use Rattle.table.specs.declared.Header.{Header}
-use Rattle.typing.specs.Verdict.{expression_type_rule}
+use Rattle.std.proofs.Common.{rules}
+use Rattle.typecheck.proofs.VerdictLaws.{types_searched}
 use Rattle.typecheck.proofs.rules.lowest_untyped.Goals as goal
 
-pub loop-i-init : goal.loop-i-init
-unfolding expression_type_rule
-loop-i-init c = none_passed _ (ap (λ (h : Header). h.expressions) c.requires.framed.is) refl
-
-pub returns-then-not-expression_ok : goal.returns-then-not-expression_ok
-unfolding expression_type_rule
-returns-then-not-expression_ok c = refuses _ c.loop-i.invariant c.loop-i-test.true c.expression_ok.ensures c.if-not-expression_ok.true
-
-pub loop-i-preserved : goal.loop-i-preserved
-unfolding expression_type_rule
-loop-i-preserved c = one_passed _ c.loop-i.invariant c.loop-i-test.true c.expression_ok.ensures c.if-not-expression_ok.false
-
 pub returns : goal.returns
-unfolding expression_type_rule
-returns c = accepts _ c.loop-i.invariant c.loop-i-test.false
+returns c = types_searched c.args.table.now.frame c.first_fault.ensures (λ i b inside tells. search rules)

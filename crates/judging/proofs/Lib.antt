@@ -1,0 +1,4 @@
+pub mod NamedLaws
+pub mod RootLaws
+pub mod WalkLaws
+pub mod Unique

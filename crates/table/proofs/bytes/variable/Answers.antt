@@ -1,7 +1,0 @@
--- `bytes::variable`: the frame holds the record. Assumes nothing.
-use Rattle.table.specs.Bytes.{variable}
-use Rattle.table.proofs.bytes.variable.Goals as goal
-
-pub returns : goal.returns
-unfolding variable
-returns c = c.variable_at.ensures
