@@ -16,6 +16,7 @@ use Rattle.running.proofs.StartLaws.{result_ran}
 use Rattle.running.proofs.AcceptedLaws.{next_accepts}
 use Rattle.runner.specs.declared.Outcome.{Outcome}
 use Rattle.runner.specs.Given.{Gives}
+use Rattle.secrecy.specs.Agreement.{SameResult}
 use Rattle.demands.specs.Demands.{answer_of, Demand1, Demand2, Demand3}
 use Rattle.demands.proofs.Theorems as Demands
 use Rattle.bil.specs.RunCall.{Left, left, numbers}
@@ -232,13 +233,23 @@ SameNumbers c p = (c ≡ code_of (answer_of c p)) × (p ≡ place_of (answer_of 
 plain_numbers : (a : Answer) {c p : ℕ} → answer_of (code_of a) (place_of a) ≡ a → c ≡ code_of a → p ≡ place_of a → SameNumbers c p
 plain_numbers a e c p = rw (c, p) (sym (ap code_of e), sym (ap place_of e))
 
+plain_run : (s : Start) (out : List ℕ) (l : Left) → RunCall (s, out) l → length out ≡ 5 → (l.answer ≡ 1) × (l.out ≡ numbers (told l))
+plain_run s out l c h =
+    let e = with_room s out c h in
+    (ap (λ (x : Left). x.answer) e, ap (λ (x : Left). x.out) e ∙ ap numbers (sym (ap told e ∙ told_is s)))
+
+-- results that say the same of a run have the same five numbers
+same_five : {table : List ℕ} {r q : Result} → SameResult table r q → numbers r ≡ numbers q
+same_five x = rw (x.ending, x.ticks, x.count, x.next) refl
+
 pub plain : Plain
 plain =
     record {
       check = λ s c p code place. plain_numbers (check s) ((Demands.decided).answers s) (check_code code) (check_place place);
       seal = λ s c p code place. plain_numbers (seal_check s) ((Demands.decided).seal_answers s) (seal_code code) (seal_place place);
-      run = λ s out l c h.
-          let e = with_room s out c h in
-          (ap (λ (x : Left). x.answer) e, ap (λ (x : Left). x.out) e ∙ ap numbers (sym (ap told e ∙ told_is s)));
+      run = plain_run;
+      alike = λ s t out other l m clean agree c d h k.
+          (plain_run s out l c h).1 ∙ same_five (c_demand_3 s t (told l) (told m) clean agree (every_c_run h c) (every_c_run k d))
+          ∙ sym (plain_run t other m d k).1;
       no_room = λ s out l. without s out;
     }

@@ -3,11 +3,12 @@
 -- three demands hold of each library here. A contract speaks of lists of any numbers, so whatever can be lent is among them. Assumes nothing.
 use Rattle.std.specs.Prelude.{◌≡◌, List, ℕ, length, get_or}
 use Rattle.std.specs.Borrow.{Bor, MutBor}
-use Rattle.base.specs.Refusals.{Answer, code_of, place_of}
+use Rattle.base.specs.Refusals.{Answer, Accepted, code_of, place_of}
 use Rattle.running.specs.Start.{Start}
 use Rattle.running.specs.Result.{Result}
 use Rattle.starts.specs.Lent.{lent}
 use Rattle.runner.specs.declared.Outcome.{Outcome}
+use Rattle.secrecy.specs.Agreement.{Agreeing}
 use Rattle.demands.specs.Demands.{Library, answer_of, ending_of}
 use Rattle.bil.specs.RunCall.{Left, left, numbers}
 use Rattle.verdict.proofs as verdict
@@ -96,12 +97,16 @@ pub data Returned (s : Start) : Result → Type 0 where
 abbrev pub in_c : Library
 in_c = record { check = Answered CheckCode CheckPlace; seal = Answered SealCode SealPlace; run = Returned }
 
--- Beside the demands: the numbers say no more than what they tell, so that a place is 0 where the code is; and "1, and the five numbers in
+-- Beside the demands: the numbers say no more than what they tell, so that a place is 0 where the code is; "Both runs give the same answer,
+-- place, tick count, next address and log count" of the numbers themselves, whatever they tell; and "1, and the five numbers in
 -- out; 0 where out_size is not 5: then nothing is written anywhere" (bil.h).
 pub record Plain : Type 0 where
   pub check : (s : List ℕ) (c p : ℕ) → CheckCode s c → CheckPlace s p → (c ≡ code_of (answer_of c p)) × (p ≡ place_of (answer_of c p))
   pub seal : (s : List ℕ) (c p : ℕ) → SealCode s c → SealPlace s p → (c ≡ code_of (answer_of c p)) × (p ≡ place_of (answer_of c p))
   pub run : (s : Start) (out : List ℕ) (l : Left) → RunCall (s, out) l → length out ≡ 5 → (l.answer ≡ 1) × (l.out ≡ numbers (told l))
+  pub alike :
+      (s t : Start) (out other : List ℕ) (l m : Left) → in_c.seal s.table Accepted → Agreeing s t → RunCall (s, out) l → RunCall (t, other) m
+      → length out ≡ 5 → length other ≡ 5 → l.out ≡ m.out
   pub no_room : (s : Start) (out : List ℕ) (l : Left) → RunCall (s, out) l → (length out ≡ 5 → ⊥) → l ≡ left 0 s.state s.log out
 
 -- ------------------------------------------------------------------------------------------------
