@@ -1,4 +1,5 @@
-// The value of a whole expression, as a statement has it: no binding is in force.
+// The value of a whole expression, as a statement has it: no binding is in force, so none travels until the walk comes to a let, which
+// hands its body the first.
 ghost use Rattle.std.specs.Prelude.{◌<◌};
 ghost use Rattle.table.specs.Bytes as Bytes;
 ghost use Rattle.table.specs.Decode.{context, expr};
@@ -8,10 +9,13 @@ ghost use Rattle.bindings.specs.Bound.{bindings_of, none};
 ghost use Rattle.operation.specs.Outcome.{Leaves};
 ghost use Rattle.evaluate.specs.Ready.{Ready};
 
-use crate::walk::operand;
+use crate::walk::eval;
 use base::codes::Stop;
 use bindings::Bindings;
 use memory::LogBuffer;
+use operation::after;
+use operation::leaf::leaf;
+use operation::order::{Steps, steps_of};
 use table::read::Table;
 use value::Value;
 
@@ -20,5 +24,27 @@ pub fn whole(table: &Table, state: &[u64], log: &mut LogBuffer, i: u32) -> Resul
     requires i_bound { i < (Bytes.header table.now.frame.bytes.now).expressions }
     ensures { Leaves log.old (Evaluation.eval (context table.now.frame.bytes.now) (room_of log.old) state.now (expr table.now.frame.bytes.now i) (bindings_of none) (held log.old)) result log.new }
 {
-    operand(table, state, log, &Bindings::none(), i)
+    let r = table.frame.expression(i);
+    match steps_of(r) {
+        Steps::Leaf => Ok(leaf(&table.frame, state, &Bindings::none(), r)),
+        Steps::One(a) => {
+            let x = whole(table, state, log, a)?;
+            Ok(after::one(r, x))
+        }
+        Steps::Two(a, b) => {
+            let x = whole(table, state, log, a)?;
+            let y = whole(table, state, log, b)?;
+            Ok(after::two(log, r, x, y))
+        }
+        Steps::Let(a, b) => {
+            let x = whole(table, state, log, a)?;
+            eval(table, state, log, Bindings::none().with(r.a, x), b)
+        }
+        Steps::Three(a, b, c) => {
+            let x = whole(table, state, log, a)?;
+            let y = whole(table, state, log, b)?;
+            let z = whole(table, state, log, c)?;
+            after::three(log, r, x, y, z)
+        }
+    }
 }
