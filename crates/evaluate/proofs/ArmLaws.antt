@@ -27,7 +27,7 @@ use Rattle.memory.specs.declared.LogBuffer.{LogBuffer}
 use Rattle.memory.specs.Log.{Log}
 use Rattle.memory.specs.Buffer.{held, room_of}
 use Rattle.memory.specs.Typed.{Has}
-use Rattle.memory.proofs.LogLaws.{◌⊑◌}
+use Rattle.memory.proofs.LogLaws.{◌⊑◌, stay}
 use Rattle.memory.proofs.HasLaws.{has_stays}
 use Rattle.evaluation.specs.Evaluation as E
 use Rattle.evaluation.specs.Evaluation.{◌and_then◌, Binding, most_bindings}
@@ -43,6 +43,7 @@ use Rattle.operation.specs.declared.order.Steps.TheVariants as By
 use Rattle.operation.specs.Order.{orders, steps_of}
 use Rattle.operation.specs.ByOp.{leaves, at_once, value_in, leaf_value, one_value, two_value, three_value, OneFits, TwoFits, ThreeFits}
 use Rattle.logs.specs.Held.{Holds}
+use Rattle.operation.specs.After.{AfterOne, AfterTwo, AfterThree, one_after, two_after, three_after}
 use Rattle.operation.specs.Outcome.{Leaves, log_in}
 use Rattle.operation.proofs.OutcomeLaws as Still
 use Rattle.evaluate.specs.Ready.{Ready}
@@ -226,23 +227,30 @@ module _ {s σ : List ℕ} {l : LogBuffer} {b : Bindings} {i : ℕ} {r : Node} {
   pub one_below : a < i
   one_below = below here
 
-  pub one_stops : {code : Stop} {m : LogBuffer} → Call s σ l b a (Err code) m → Leaves l (whole here) (Err code) m
+  one_stops : {code : Stop} {m : LogBuffer} → Call s σ l b a (Err code) m → Leaves l (whole here) (Err code) m
   unfolding eval_by
   one_stops first = let h = below here in stops_first here.ready a (omega arith) first _ (by here)
 
-  module _ {v : Value} {m : LogBuffer} (first : Call s σ l b a (Ok v) m) where
-    pub one_asks : OneFits r v
-    one_asks = go (met here)
-      where
-        go : Step s i r (By.One a) → OneFits r v
-        go (one h d f) = f _ v (valued (called here.ready a (omega arith) d first)).has
+  one_gives : {v : Value} {m : LogBuffer} → Call s σ l b a (Ok v) m → Leaves l (whole here) (Ok (one_value r v)) m
+  unfolding eval_by
+  one_gives {v} first =
+      let h = below here in
+      leaves_value (went_on here.ready a (omega arith) first)
+      (then_value (λ v L. E.value (one_value r v) L) (by here) (gave here.ready a (omega arith) first))
 
-    pub one_leaves : {y : Value} → y ≡ one_value r v → Leaves l (whole here) (Ok y) m
-    unfolding eval_by
-    one_leaves {y} p =
-        let h = below here in
-        leaves_value (went_on here.ready a (omega arith) first)
-        (then_value (λ v L. E.value (one_value r v) L) (by here) (gave here.ready a (omega arith) first) ∙ ap (λ (y : Value). E.value y (held m)) (sym p))
+  module _ {e : Result Value Stop} {m : LogBuffer} (last : Call s σ l b a e m) where
+    pub one_asks : AfterOne r e
+    one_asks = record { fits = λ v p. go v (met here) (subst (λ (e : Result Value Stop). Call s σ l b a e m) p last) }
+      where
+        go : (v : Value) → Step s i r (By.One a) → Call s σ l b a (Ok v) m → OneFits r v
+        go v (one h d f) first = f _ v (valued (called here.ready a (omega arith) d first)).has
+
+    pub one_leaves : {y : Result Value Stop} → y ≡ one_after r e → Leaves l (whole here) y m
+    one_leaves p = subst (λ (y : Result Value Stop). Leaves l (whole here) y m) (sym p) (go e last)
+      where
+        go : (e : Result Value Stop) → Call s σ l b a e m → Leaves l (whole here) (one_after r e) m
+        go (Ok v) last = one_gives last
+        go (Err code) last = one_stops last
 
 -- two
 module _ {s σ : List ℕ} {l : LogBuffer} {b : Bindings} {i : ℕ} {r : Node} {a c : ℕ} (here : At s σ l b i r (By.Two a c)) where
@@ -270,32 +278,41 @@ module _ {s σ : List ℕ} {l : LogBuffer} {b : Bindings} {i : ℕ} {r : Node} {
     pub two_ready : Ready s σ m b
     two_ready = stays here.ready went_first
 
-    pub two_stops_second : {code : Stop} {p : LogBuffer} → Call s σ m b c (Err code) p → Leaves l (whole here) (Err code) p
+    two_stops_second : {code : Stop} {p : LogBuffer} → Call s σ m b c (Err code) p → Leaves l (whole here) (Err code) p
     two_stops_second second =
         let g = (below here).1 in
         let (t, k) = known_call two_ready c (omega arith) second in
         let z = ended k in
         leaves_stop (went_trans went_first z.went) (then_stop _ after_first z.is)
 
-    module _ {w : Value} {p : LogBuffer} (second : Call s σ m b c (Ok w) p) where
-      went_second : Went m p
-      went_second = let g = (below here).1 in went_on two_ready c (omega arith) second
+    two_gives : {w : Value} {p : LogBuffer} → Call s σ m b c (Ok w) p → Leaves l (whole here) (Ok (two_value (held p) r v w)) p
+    two_gives second =
+        let g = (below here).1 in
+        leaves_value (went_trans went_first (went_on two_ready c (omega arith) second))
+        (then_value (λ w L. E.value (two_value L r v w) L) after_first (gave two_ready c (omega arith) second))
 
-      pub two_asks : Holds p.numbers.now p.count × TwoFits (held p) r v w
-      two_asks = go (met here)
+    module _ {e : Result Value Stop} {p : LogBuffer} (last : Call s σ m b c e p) where
+      pub two_asks : AfterTwo p r v e
+      two_asks = record { holds = λ w q. (asks w (given w q)).0; fits = λ w q. (asks w (given w q)).1 }
         where
-          go : Step s i r (By.Two a c) → Holds p.numbers.now p.count × TwoFits (held p) r v w
-          go (two h g d f fits) =
+          given : (w : Value) → e ≡ Ok w → Call s σ m b c (Ok w) p
+          given w q = subst (λ (e : Result Value Stop). Call s σ m b c e p) q last
+
+          go : (w : Value) → Step s i r (By.Two a c) → Call s σ m b c (Ok w) p → Holds p.numbers.now p.count × TwoFits (held p) r v w
+          go w (two h g d f fits) second =
               let one = valued (called here.ready a (omega arith) d first) in
               let two = valued (called two_ready c (omega arith) f second) in
               (went_holds two.went, fits _ v w (has_stays two.went.on one.has) two.has)
 
-      pub two_leaves : {y : Value} → y ≡ two_value (held p) r v w → Leaves l (whole here) (Ok y) p
-      two_leaves q =
-          let g = (below here).1 in
-          leaves_value (went_trans went_first went_second)
-          (then_value (λ w L. E.value (two_value L r v w) L) after_first (gave two_ready c (omega arith) second)
-          ∙ ap (λ (y : Value). E.value y (held p)) (sym q))
+          asks : (w : Value) → Call s σ m b c (Ok w) p → Holds p.numbers.now p.count × TwoFits (held p) r v w
+          asks w second = go w (met here) second
+
+      pub two_leaves : {y : Result Value Stop} → y ≡ two_after p r v e → Leaves l (whole here) y p
+      two_leaves q = subst (λ (y : Result Value Stop). Leaves l (whole here) y p) (sym q) (go e last)
+        where
+          go : (e : Result Value Stop) → Call s σ m b c e p → Leaves l (whole here) (two_after p r v e) p
+          go (Ok w) last = two_gives last
+          go (Err code) last = two_stops_second last
 
 -- a let
 module _ {s σ : List ℕ} {l : LogBuffer} {b : Bindings} {i : ℕ} {r : Node} {a c : ℕ} (here : At s σ l b i r (By.Let a c)) where
@@ -413,35 +430,44 @@ module _ {s σ : List ℕ} {l : LogBuffer} {b : Bindings} {i : ℕ} {r : Node} {
           then_value (rest v) after_one (gave three_ready c (omega arith) second)
           ∙ ap (λ (k : ℕ). eval_at s k σ d (bindings_of b) (held p) and_then last v w) (sym (same_room both))
 
-      pub three_stops_third : {code : Stop} {q : LogBuffer} → Call s σ p b d (Err code) q → Leaves l (whole here) (Err code) q
-      three_stops_third third =
-          let h = (below here).2 in
-          let (t, k) = known_call three_ready_last d (omega arith) third in
-          let z = ended k in
-          leaves_stop (went_trans both z.went) (then_stop (last v w) after_two z.is)
+      module _ {e : Result Value Stop} {q : LogBuffer} (last_call : Call s σ p b d e q) where
+        given : {f : Result Value Stop} → e ≡ f → Call s σ p b d f q
+        given is = subst (λ (e : Result Value Stop). Call s σ p b d e q) is last_call
 
-      module _ {z : Value} {q : LogBuffer} (third : Call s σ p b d (Ok z) q) where
-        went_three : Went p q
-        went_three = let h = (below here).2 in went_on three_ready_last d (omega arith) third
+        went_third : {code : Stop} → Call s σ p b d (Err code) q → Ended p (evaluated s σ p (bindings_of b) d) code q
+        went_third third = let h = (below here).2 in let (t, k) = known_call three_ready_last d (omega arith) third in ended k
 
-        pub three_asks : Holds q.numbers.now q.count × ThreeFits (held q) r v w z
-        three_asks = go (met here)
+        pub three_asks : AfterThree q r v w e
+        three_asks = record {
+          holds = λ z is. (asks z (given is)).0;
+          fits = λ z is. (asks z (given is)).1;
+          room = λ code is. (went_third (given is)).went.room;
+        }
           where
-            go : Step s i r (By.Three a c d) → Holds q.numbers.now q.count × ThreeFits (held q) r v w z
-            go (three h g k tx ty tz fits) =
+            go : (z : Value) → Step s i r (By.Three a c d) → Call s σ p b d (Ok z) q → Holds q.numbers.now q.count × ThreeFits (held q) r v w z
+            go z (three h g k tx ty tz fits) third =
                 let one = valued (called here.ready a (omega arith) tx first) in
                 let two = valued (called three_ready c (omega arith) ty second) in
                 let last = valued (called three_ready_last d (omega arith) tz third) in
                 (went_holds last.went, fits _ v w z (has_stays last.went.on (has_stays two.went.on one.has)) (has_stays last.went.on two.has) last.has)
 
-        pub three_leaves : {y : Result Value Stop} {o : LogBuffer} → Leaves q (three_value (room_of q) (held q) r v w z) y o → Leaves l (whole here) y o
-        three_leaves {y} {o} left =
-            let h = (below here).2 in
-            let all = went_trans both went_three in
-            let is : whole here ≡ three_value (room_of q) (held q) r v w z =
-            then_value (last v w) after_two (gave three_ready_last d (omega arith) third)
-            ∙ ap (λ (k : ℕ). three_value k (held q) r v w z) (sym (same_room all)) in
-            subst (λ (x : E.Evaluated). Leaves l x y o) (sym is) (on_over all (three_on (room_of q) (held q) r v w z) left)
+            asks : (z : Value) → Call s σ p b d (Ok z) q → Holds q.numbers.now q.count × ThreeFits (held q) r v w z
+            asks z third = go z (met here) third
+
+        pub three_leaves : {y : Result Value Stop} {o : LogBuffer} → Leaves q (three_after q r v w e) y o → Leaves l (whole here) y o
+        three_leaves {y} {o} left = go e last_call left
+          where
+            go : (e : Result Value Stop) → Call s σ p b d e q → Leaves q (three_after q r v w e) y o → Leaves l (whole here) y o
+            go (Ok z) third left =
+                let h = (below here).2 in
+                let all = went_trans both (went_on three_ready_last d (omega arith) third) in
+                let is : whole here ≡ three_value (room_of q) (held q) r v w z =
+                then_value (last v w) after_two (gave three_ready_last d (omega arith) third)
+                ∙ ap (λ (k : ℕ). three_value k (held q) r v w z) (sym (same_room all)) in
+                subst (λ (x : E.Evaluated). Leaves l x y o) (sym is) (on_over all (three_on (room_of q) (held q) r v w z) left)
+            go (Err code) third left =
+                let end = went_third third in
+                subst (λ (x : E.Evaluated). Leaves l x y o) (sym (then_stop (last v w) after_two end.is)) (on_over (went_trans both end.went) stay left)
 
 -- ------------------------------------------------------------------------------------------------
 -- An operand, whose value is there at once

@@ -37,13 +37,13 @@ pub fn eval(
     match steps_of(r) {
         Steps::Leaf => Ok(leaf(&table.frame, state, &bindings, r)),
         Steps::One(a) => {
-            let x = operand(table, state, log, &bindings, a)?;
-            Ok(after::one(r, x))
+            let e = operand(table, state, log, &bindings, a);
+            after::one(r, e)
         }
         Steps::Two(a, b) => {
             let x = operand(table, state, log, &bindings, a)?;
-            let y = operand(table, state, log, &bindings, b)?;
-            Ok(after::two(log, r, x, y))
+            let e = operand(table, state, log, &bindings, b);
+            after::two(log, r, x, e)
         }
         Steps::Let(a, b) => {
             let x = operand(table, state, log, &bindings, a)?;
@@ -55,8 +55,8 @@ pub fn eval(
         Steps::Three(a, b, c) => {
             let x = operand(table, state, log, &bindings, a)?;
             let y = operand(table, state, log, &bindings, b)?;
-            let z = operand(table, state, log, &bindings, c)?;
-            after::three(log, r, x, y, z)
+            let e = operand(table, state, log, &bindings, c);
+            after::three(log, r, x, y, e)
         }
     }
 }

@@ -28,13 +28,13 @@ pub fn whole(table: &Table, state: &[u64], log: &mut LogBuffer, i: u32) -> Resul
     match steps_of(r) {
         Steps::Leaf => Ok(leaf(&table.frame, state, &Bindings::none(), r)),
         Steps::One(a) => {
-            let x = whole(table, state, log, a)?;
-            Ok(after::one(r, x))
+            let e = whole(table, state, log, a);
+            after::one(r, e)
         }
         Steps::Two(a, b) => {
             let x = whole(table, state, log, a)?;
-            let y = whole(table, state, log, b)?;
-            Ok(after::two(log, r, x, y))
+            let e = whole(table, state, log, b);
+            after::two(log, r, x, e)
         }
         Steps::Let(a, b) => {
             let x = whole(table, state, log, a)?;
@@ -43,8 +43,8 @@ pub fn whole(table: &Table, state: &[u64], log: &mut LogBuffer, i: u32) -> Resul
         Steps::Three(a, b, c) => {
             let x = whole(table, state, log, a)?;
             let y = whole(table, state, log, b)?;
-            let z = whole(table, state, log, c)?;
-            after::three(log, r, x, y, z)
+            let e = whole(table, state, log, c);
+            after::three(log, r, x, y, e)
         }
     }
 }

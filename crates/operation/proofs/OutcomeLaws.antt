@@ -3,6 +3,8 @@ use mathlib.Core.Path.{◌≡◌, sym, ap, subst, ◌∙◌}
 use Prim.Native.Nat.{ℕ, ◌*◌, ◌≤◌}
 use lib.ListN.{length}
 use Rattle.std.specs.Prelude.{Result, Ok, Err}
+use Rattle.std.specs.Result.{IsErr, IsErrAnd}
+use Rattle.std.proofs.lemmas.Result.{err_from_is_err_and}
 use Rattle.base.specs.declared.codes.Stop.{Stop}
 use Rattle.base.specs.declared.codes.Stop.TheVariants as Stops
 use Rattle.value.specs.declared.Value.{Value}
@@ -34,3 +36,14 @@ leaves_value {b} {x} h e k = record {
   is = ap Ok k ∙ sym (ap answer e);
   log = subst (λ (L : Log). Becomes b L b) (sym (ap log_in e)) (becomes_same b h);
 }
+
+pub leaves_stop : {b : LogBuffer} {x : E.Evaluated} {code : Stop} {r : Result Value Stop} → entry_size * b.count ≤ length b.numbers.now
+    → x ≡ E.stopped code (held b) → r ≡ Err code → Leaves b x r b
+leaves_stop {b} {x} h e k = record {
+  is = k ∙ sym (ap answer e);
+  log = subst (λ (L : Log). Becomes b L b) (sym (ap log_in e)) (becomes_same b h);
+}
+
+-- a stop that `?` hands on
+pub is_stop : {code : Stop} {r : Result Value Stop} → IsErr r × IsErrAnd r (λ y. y ≡ code) → r ≡ Err code
+is_stop {r = r} h = let p = err_from_is_err_and r h.1 in p.1 ∙ ap Err p.2

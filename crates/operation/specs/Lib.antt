@@ -1,3 +1,4 @@
+pub mod After
 pub mod ByOp
 pub mod Order
 pub mod Outcome

@@ -2,10 +2,10 @@
 use Rattle.std.proofs.Common.{◌≡◌, ◌<◌, subst, sym}
 use Rattle.table.specs.declared.Header.{Header}
 use Rattle.table.specs.Bytes.{expression}
-use Rattle.evaluate.proofs.ArmLaws.{arrived, down, down_whole, stopped, leaf_asks, leaf_leaves, one_below, one_stops, one_asks, one_leaves}
-use Rattle.evaluate.proofs.ArmLaws.{two_below, two_ready, two_stops, two_stops_second, two_asks, two_leaves}
+use Rattle.evaluate.proofs.ArmLaws.{arrived, down, down_whole, stopped, leaf_asks, leaf_leaves, one_below, one_asks, one_leaves}
+use Rattle.evaluate.proofs.ArmLaws.{two_below, two_ready, two_stops, two_asks, two_leaves}
 use Rattle.evaluate.proofs.ArmLaws.{let_below, let_asks, let_ready, let_stops, let_full, let_leaves}
-use Rattle.evaluate.proofs.ArmLaws.{three_below, three_ready, three_ready_last, three_stops, three_stops_second, three_stops_third, three_asks, three_leaves}
+use Rattle.evaluate.proofs.ArmLaws.{three_below, three_ready, three_ready_last, three_stops, three_stops_second, three_asks, three_leaves}
 use Rattle.evaluate.proofs.ArmLaws.{variable_asks, at_once_leaves}
 use Rattle.evaluate.proofs.walk.+eval_operand.Goals as goal
 
@@ -18,41 +18,32 @@ eval-leaf-requires-clause-a_lt_variables t c = subst (λ (h : Header). c.express
 pub eval-returns-in-Leaf : goal.eval-returns-in-Leaf
 eval-returns-in-Leaf t c = leaf_leaves (arrived c.requires.ready c.requires.i_bound c.expression-r.ensures c.steps_of.ensures c.in-Leaf.is) c.leaf.ensures
 
-pub eval-operand-requires : goal.eval-operand-requires
-eval-operand-requires t c = down c.decreases (one_below (arrived c.requires.ready c.requires.i_bound c.expression-r.ensures c.steps_of.ensures c.in-One.is)) c.requires.i_bound c.requires.ready
-
-pub eval-returns-in_err-x-in-One : goal.eval-returns-in_err-x-in-One
-eval-returns-in_err-x-in-One t c = stopped c.from_residual.ensures (one_stops (arrived c.requires.ready c.requires.i_bound c.expression-r.ensures c.steps_of.ensures c.in-One.is) c.in_err-x-in-One.ensures)
+pub eval-operand-e-requires : goal.eval-operand-e-requires
+eval-operand-e-requires t c = down c.decreases (one_below (arrived c.requires.ready c.requires.i_bound c.expression-r.ensures c.steps_of.ensures c.in-One.is)) c.requires.i_bound c.requires.ready
 
 pub eval-one-requires : goal.eval-one-requires
-eval-one-requires t c = one_asks (arrived c.requires.ready c.requires.i_bound c.expression-r.ensures c.steps_of.ensures c.in-One.is) c.in_ok-x-in-One.ensures
+eval-one-requires t c = one_asks (arrived c.requires.ready c.requires.i_bound c.expression-r.ensures c.steps_of.ensures c.in-One.is) c.operand-e.ensures
 
-pub eval-returns-in_ok-x-in-One : goal.eval-returns-in_ok-x-in-One
-eval-returns-in_ok-x-in-One t c = one_leaves (arrived c.requires.ready c.requires.i_bound c.expression-r.ensures c.steps_of.ensures c.in-One.is) c.in_ok-x-in-One.ensures c.one.ensures
+pub eval-returns-in-One : goal.eval-returns-in-One
+eval-returns-in-One t c = one_leaves (arrived c.requires.ready c.requires.i_bound c.expression-r.ensures c.steps_of.ensures c.in-One.is) c.operand-e.ensures c.one.ensures
 
 -- ------------------------------------------------------------------------------------------------
 -- Two
 
-pub eval-operand-requires-in-Two : goal.eval-operand-requires-in-Two
-eval-operand-requires-in-Two t c = down c.decreases (two_below (arrived c.requires.ready c.requires.i_bound c.expression-r.ensures c.steps_of.ensures c.in-Two.is)).0 c.requires.i_bound c.requires.ready
+pub eval-operand-requires : goal.eval-operand-requires
+eval-operand-requires t c = down c.decreases (two_below (arrived c.requires.ready c.requires.i_bound c.expression-r.ensures c.steps_of.ensures c.in-Two.is)).0 c.requires.i_bound c.requires.ready
 
 pub eval-returns-in_err-x-in-Two : goal.eval-returns-in_err-x-in-Two
-eval-returns-in_err-x-in-Two t c = stopped c.from_residual-in_err-x-in-Two.ensures (two_stops (arrived c.requires.ready c.requires.i_bound c.expression-r.ensures c.steps_of.ensures c.in-Two.is) c.in_err-x-in-Two.ensures)
+eval-returns-in_err-x-in-Two t c = stopped c.from_residual.ensures (two_stops (arrived c.requires.ready c.requires.i_bound c.expression-r.ensures c.steps_of.ensures c.in-Two.is) c.in_err-x-in-Two.ensures)
 
-pub eval-operand-requires-in-Two-2 : goal.eval-operand-requires-in-Two-2
-eval-operand-requires-in-Two-2 t c = down c.decreases (two_below (arrived c.requires.ready c.requires.i_bound c.expression-r.ensures c.steps_of.ensures c.in-Two.is)).1 c.requires.i_bound (two_ready (arrived c.requires.ready c.requires.i_bound c.expression-r.ensures c.steps_of.ensures c.in-Two.is) c.in_ok-x-in-Two.ensures)
+pub eval-operand-e-requires-in-Two : goal.eval-operand-e-requires-in-Two
+eval-operand-e-requires-in-Two t c = down c.decreases (two_below (arrived c.requires.ready c.requires.i_bound c.expression-r.ensures c.steps_of.ensures c.in-Two.is)).1 c.requires.i_bound (two_ready (arrived c.requires.ready c.requires.i_bound c.expression-r.ensures c.steps_of.ensures c.in-Two.is) c.in_ok-x-in-Two.ensures)
 
-pub eval-returns-in_err-y-in-Two : goal.eval-returns-in_err-y-in-Two
-eval-returns-in_err-y-in-Two t c = stopped c.from_residual-in_err-y-in-Two.ensures (two_stops_second (arrived c.requires.ready c.requires.i_bound c.expression-r.ensures c.steps_of.ensures c.in-Two.is) c.in_ok-x-in-Two.ensures c.in_err-y-in-Two.ensures)
+pub eval-two-requires : goal.eval-two-requires
+eval-two-requires t c = two_asks (arrived c.requires.ready c.requires.i_bound c.expression-r.ensures c.steps_of.ensures c.in-Two.is) c.in_ok-x-in-Two.ensures c.operand-e-in-Two.ensures
 
-pub eval-two-requires-clause-holds : goal.eval-two-requires-clause-holds
-eval-two-requires-clause-holds t c = (two_asks (arrived c.requires.ready c.requires.i_bound c.expression-r.ensures c.steps_of.ensures c.in-Two.is) c.in_ok-x-in-Two.ensures c.in_ok-y-in-Two.ensures).0
-
-pub eval-two-requires-clause-two_fits : goal.eval-two-requires-clause-two_fits
-eval-two-requires-clause-two_fits t c = (two_asks (arrived c.requires.ready c.requires.i_bound c.expression-r.ensures c.steps_of.ensures c.in-Two.is) c.in_ok-x-in-Two.ensures c.in_ok-y-in-Two.ensures).1
-
-pub eval-returns-in_ok-y-in-Two : goal.eval-returns-in_ok-y-in-Two
-eval-returns-in_ok-y-in-Two t c = two_leaves (arrived c.requires.ready c.requires.i_bound c.expression-r.ensures c.steps_of.ensures c.in-Two.is) c.in_ok-x-in-Two.ensures c.in_ok-y-in-Two.ensures c.two.ensures
+pub eval-returns-in_ok-x-in-Two : goal.eval-returns-in_ok-x-in-Two
+eval-returns-in_ok-x-in-Two t c = two_leaves (arrived c.requires.ready c.requires.i_bound c.expression-r.ensures c.steps_of.ensures c.in-Two.is) c.in_ok-x-in-Two.ensures c.operand-e-in-Two.ensures c.two.ensures
 
 -- ------------------------------------------------------------------------------------------------
 -- A let
@@ -95,22 +86,16 @@ eval-operand-requires-in-Three-2 t c = down c.decreases (three_below (arrived c.
 pub eval-returns-in_err-y-in-Three : goal.eval-returns-in_err-y-in-Three
 eval-returns-in_err-y-in-Three t c = stopped c.from_residual-in_err-y-in-Three.ensures (three_stops_second (arrived c.requires.ready c.requires.i_bound c.expression-r.ensures c.steps_of.ensures c.in-Three.is) c.in_ok-x-in-Three.ensures c.in_err-y-in-Three.ensures)
 
-pub eval-operand-requires-in-Three-3 : goal.eval-operand-requires-in-Three-3
-eval-operand-requires-in-Three-3 t c =
+pub eval-operand-e-requires-in-Three : goal.eval-operand-e-requires-in-Three
+eval-operand-e-requires-in-Three t c =
     let ready = three_ready_last (arrived c.requires.ready c.requires.i_bound c.expression-r.ensures c.steps_of.ensures c.in-Three.is) c.in_ok-x-in-Three.ensures c.in_ok-y-in-Three.ensures in
     down c.decreases (three_below (arrived c.requires.ready c.requires.i_bound c.expression-r.ensures c.steps_of.ensures c.in-Three.is)).2 c.requires.i_bound ready
 
-pub eval-returns-in_err-z-in-Three : goal.eval-returns-in_err-z-in-Three
-eval-returns-in_err-z-in-Three t c = stopped c.from_residual-in_err-z-in-Three.ensures (three_stops_third (arrived c.requires.ready c.requires.i_bound c.expression-r.ensures c.steps_of.ensures c.in-Three.is) c.in_ok-x-in-Three.ensures c.in_ok-y-in-Three.ensures c.in_err-z-in-Three.ensures)
+pub eval-three-requires : goal.eval-three-requires
+eval-three-requires t c = three_asks (arrived c.requires.ready c.requires.i_bound c.expression-r.ensures c.steps_of.ensures c.in-Three.is) c.in_ok-x-in-Three.ensures c.in_ok-y-in-Three.ensures c.operand-e-in-Three.ensures
 
-pub eval-three-requires-clause-holds : goal.eval-three-requires-clause-holds
-eval-three-requires-clause-holds t c = (three_asks (arrived c.requires.ready c.requires.i_bound c.expression-r.ensures c.steps_of.ensures c.in-Three.is) c.in_ok-x-in-Three.ensures c.in_ok-y-in-Three.ensures c.in_ok-z-in-Three.ensures).0
-
-pub eval-three-requires-clause-three_fits : goal.eval-three-requires-clause-three_fits
-eval-three-requires-clause-three_fits t c = (three_asks (arrived c.requires.ready c.requires.i_bound c.expression-r.ensures c.steps_of.ensures c.in-Three.is) c.in_ok-x-in-Three.ensures c.in_ok-y-in-Three.ensures c.in_ok-z-in-Three.ensures).1
-
-pub eval-returns-in_ok-z-in-Three : goal.eval-returns-in_ok-z-in-Three
-eval-returns-in_ok-z-in-Three t c = three_leaves (arrived c.requires.ready c.requires.i_bound c.expression-r.ensures c.steps_of.ensures c.in-Three.is) c.in_ok-x-in-Three.ensures c.in_ok-y-in-Three.ensures c.in_ok-z-in-Three.ensures c.three.ensures
+pub eval-returns-in_ok-y-in-Three : goal.eval-returns-in_ok-y-in-Three
+eval-returns-in_ok-y-in-Three t c = three_leaves (arrived c.requires.ready c.requires.i_bound c.expression-r.ensures c.steps_of.ensures c.in-Three.is) c.in_ok-x-in-Three.ensures c.in_ok-y-in-Three.ensures c.operand-e-in-Three.ensures c.three.ensures
 
 -- ------------------------------------------------------------------------------------------------
 -- An operand

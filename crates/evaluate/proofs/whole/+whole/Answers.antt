@@ -6,10 +6,10 @@ use Rattle.bindings.specs.declared.Bindings.{Bindings}
 use Rattle.bindings.specs.Bound.{bindings_of, none, more}
 use Rattle.evaluation.specs.Evaluation.{most_bindings}
 use Rattle.operation.specs.ByOp.{leaf_value}
-use Rattle.evaluate.proofs.ArmLaws.{arrived, down_whole, stopped, leaf_asks, leaf_leaves, one_below, one_stops, one_asks, one_leaves}
-use Rattle.evaluate.proofs.ArmLaws.{two_below, two_ready, two_stops, two_stops_second, two_asks, two_leaves}
+use Rattle.evaluate.proofs.ArmLaws.{arrived, down_whole, stopped, leaf_asks, leaf_leaves, one_below, one_asks, one_leaves}
+use Rattle.evaluate.proofs.ArmLaws.{two_below, two_ready, two_stops, two_asks, two_leaves}
 use Rattle.evaluate.proofs.ArmLaws.{let_below, let_asks, let_ready, let_stops, let_leaves}
-use Rattle.evaluate.proofs.ArmLaws.{three_below, three_ready, three_ready_last, three_stops, three_stops_second, three_stops_third, three_asks, three_leaves}
+use Rattle.evaluate.proofs.ArmLaws.{three_below, three_ready, three_ready_last, three_stops, three_stops_second, three_asks, three_leaves}
 use Rattle.evaluate.proofs.whole.+whole.Goals as goal
 
 few_none : none.count < most_bindings
@@ -28,41 +28,32 @@ returns-in-Leaf t c =
     let none_in_force = ap (λ (b : Bindings). leaf_value (context s) c.args.state.now c.expression-r.result (bindings_of b)) c.none.ensures in
     leaf_leaves (arrived c.requires.ready c.requires.i_bound c.expression-r.ensures c.steps_of.ensures c.in-Leaf.is) (c.leaf.ensures ∙ none_in_force)
 
-pub whole-requires : goal.whole-requires
-whole-requires t c = down_whole c.decreases (one_below (arrived c.requires.ready c.requires.i_bound c.expression-r.ensures c.steps_of.ensures c.in-One.is)) c.requires.i_bound c.requires.ready
-
-pub returns-in_err-x-in-One : goal.returns-in_err-x-in-One
-returns-in_err-x-in-One t c = stopped c.from_residual.ensures (one_stops (arrived c.requires.ready c.requires.i_bound c.expression-r.ensures c.steps_of.ensures c.in-One.is) c.in_err-x-in-One.ensures)
+pub whole-e-requires : goal.whole-e-requires
+whole-e-requires t c = down_whole c.decreases (one_below (arrived c.requires.ready c.requires.i_bound c.expression-r.ensures c.steps_of.ensures c.in-One.is)) c.requires.i_bound c.requires.ready
 
 pub one-requires : goal.one-requires
-one-requires t c = one_asks (arrived c.requires.ready c.requires.i_bound c.expression-r.ensures c.steps_of.ensures c.in-One.is) c.in_ok-x-in-One.ensures
+one-requires t c = one_asks (arrived c.requires.ready c.requires.i_bound c.expression-r.ensures c.steps_of.ensures c.in-One.is) c.whole-e.ensures
 
-pub returns-in_ok-x-in-One : goal.returns-in_ok-x-in-One
-returns-in_ok-x-in-One t c = one_leaves (arrived c.requires.ready c.requires.i_bound c.expression-r.ensures c.steps_of.ensures c.in-One.is) c.in_ok-x-in-One.ensures c.one.ensures
+pub returns-in-One : goal.returns-in-One
+returns-in-One t c = one_leaves (arrived c.requires.ready c.requires.i_bound c.expression-r.ensures c.steps_of.ensures c.in-One.is) c.whole-e.ensures c.one.ensures
 
 -- ------------------------------------------------------------------------------------------------
 -- Two
 
-pub whole-requires-in-Two : goal.whole-requires-in-Two
-whole-requires-in-Two t c = down_whole c.decreases (two_below (arrived c.requires.ready c.requires.i_bound c.expression-r.ensures c.steps_of.ensures c.in-Two.is)).0 c.requires.i_bound c.requires.ready
+pub whole-requires : goal.whole-requires
+whole-requires t c = down_whole c.decreases (two_below (arrived c.requires.ready c.requires.i_bound c.expression-r.ensures c.steps_of.ensures c.in-Two.is)).0 c.requires.i_bound c.requires.ready
 
 pub returns-in_err-x-in-Two : goal.returns-in_err-x-in-Two
-returns-in_err-x-in-Two t c = stopped c.from_residual-in_err-x-in-Two.ensures (two_stops (arrived c.requires.ready c.requires.i_bound c.expression-r.ensures c.steps_of.ensures c.in-Two.is) c.in_err-x-in-Two.ensures)
+returns-in_err-x-in-Two t c = stopped c.from_residual.ensures (two_stops (arrived c.requires.ready c.requires.i_bound c.expression-r.ensures c.steps_of.ensures c.in-Two.is) c.in_err-x-in-Two.ensures)
 
-pub whole-requires-in-Two-2 : goal.whole-requires-in-Two-2
-whole-requires-in-Two-2 t c = down_whole c.decreases (two_below (arrived c.requires.ready c.requires.i_bound c.expression-r.ensures c.steps_of.ensures c.in-Two.is)).1 c.requires.i_bound (two_ready (arrived c.requires.ready c.requires.i_bound c.expression-r.ensures c.steps_of.ensures c.in-Two.is) c.in_ok-x-in-Two.ensures)
+pub whole-e-requires-in-Two : goal.whole-e-requires-in-Two
+whole-e-requires-in-Two t c = down_whole c.decreases (two_below (arrived c.requires.ready c.requires.i_bound c.expression-r.ensures c.steps_of.ensures c.in-Two.is)).1 c.requires.i_bound (two_ready (arrived c.requires.ready c.requires.i_bound c.expression-r.ensures c.steps_of.ensures c.in-Two.is) c.in_ok-x-in-Two.ensures)
 
-pub returns-in_err-y-in-Two : goal.returns-in_err-y-in-Two
-returns-in_err-y-in-Two t c = stopped c.from_residual-in_err-y-in-Two.ensures (two_stops_second (arrived c.requires.ready c.requires.i_bound c.expression-r.ensures c.steps_of.ensures c.in-Two.is) c.in_ok-x-in-Two.ensures c.in_err-y-in-Two.ensures)
+pub two-requires : goal.two-requires
+two-requires t c = two_asks (arrived c.requires.ready c.requires.i_bound c.expression-r.ensures c.steps_of.ensures c.in-Two.is) c.in_ok-x-in-Two.ensures c.whole-e-in-Two.ensures
 
-pub two-requires-clause-holds : goal.two-requires-clause-holds
-two-requires-clause-holds t c = (two_asks (arrived c.requires.ready c.requires.i_bound c.expression-r.ensures c.steps_of.ensures c.in-Two.is) c.in_ok-x-in-Two.ensures c.in_ok-y-in-Two.ensures).0
-
-pub two-requires-clause-two_fits : goal.two-requires-clause-two_fits
-two-requires-clause-two_fits t c = (two_asks (arrived c.requires.ready c.requires.i_bound c.expression-r.ensures c.steps_of.ensures c.in-Two.is) c.in_ok-x-in-Two.ensures c.in_ok-y-in-Two.ensures).1
-
-pub returns-in_ok-y-in-Two : goal.returns-in_ok-y-in-Two
-returns-in_ok-y-in-Two t c = two_leaves (arrived c.requires.ready c.requires.i_bound c.expression-r.ensures c.steps_of.ensures c.in-Two.is) c.in_ok-x-in-Two.ensures c.in_ok-y-in-Two.ensures c.two.ensures
+pub returns-in_ok-x-in-Two : goal.returns-in_ok-x-in-Two
+returns-in_ok-x-in-Two t c = two_leaves (arrived c.requires.ready c.requires.i_bound c.expression-r.ensures c.steps_of.ensures c.in-Two.is) c.in_ok-x-in-Two.ensures c.whole-e-in-Two.ensures c.two.ensures
 
 -- ------------------------------------------------------------------------------------------------
 -- A let
@@ -106,17 +97,11 @@ whole-requires-in-Three-2 t c = down_whole c.decreases (three_below (arrived c.r
 pub returns-in_err-y-in-Three : goal.returns-in_err-y-in-Three
 returns-in_err-y-in-Three t c = stopped c.from_residual-in_err-y-in-Three.ensures (three_stops_second (arrived c.requires.ready c.requires.i_bound c.expression-r.ensures c.steps_of.ensures c.in-Three.is) c.in_ok-x-in-Three.ensures c.in_err-y-in-Three.ensures)
 
-pub whole-requires-in-Three-3 : goal.whole-requires-in-Three-3
-whole-requires-in-Three-3 t c = down_whole c.decreases (three_below (arrived c.requires.ready c.requires.i_bound c.expression-r.ensures c.steps_of.ensures c.in-Three.is)).2 c.requires.i_bound (three_ready_last (arrived c.requires.ready c.requires.i_bound c.expression-r.ensures c.steps_of.ensures c.in-Three.is) c.in_ok-x-in-Three.ensures c.in_ok-y-in-Three.ensures)
+pub whole-e-requires-in-Three : goal.whole-e-requires-in-Three
+whole-e-requires-in-Three t c = down_whole c.decreases (three_below (arrived c.requires.ready c.requires.i_bound c.expression-r.ensures c.steps_of.ensures c.in-Three.is)).2 c.requires.i_bound (three_ready_last (arrived c.requires.ready c.requires.i_bound c.expression-r.ensures c.steps_of.ensures c.in-Three.is) c.in_ok-x-in-Three.ensures c.in_ok-y-in-Three.ensures)
 
-pub returns-in_err-z-in-Three : goal.returns-in_err-z-in-Three
-returns-in_err-z-in-Three t c = stopped c.from_residual-in_err-z-in-Three.ensures (three_stops_third (arrived c.requires.ready c.requires.i_bound c.expression-r.ensures c.steps_of.ensures c.in-Three.is) c.in_ok-x-in-Three.ensures c.in_ok-y-in-Three.ensures c.in_err-z-in-Three.ensures)
+pub three-requires : goal.three-requires
+three-requires t c = three_asks (arrived c.requires.ready c.requires.i_bound c.expression-r.ensures c.steps_of.ensures c.in-Three.is) c.in_ok-x-in-Three.ensures c.in_ok-y-in-Three.ensures c.whole-e-in-Three.ensures
 
-pub three-requires-clause-holds : goal.three-requires-clause-holds
-three-requires-clause-holds t c = (three_asks (arrived c.requires.ready c.requires.i_bound c.expression-r.ensures c.steps_of.ensures c.in-Three.is) c.in_ok-x-in-Three.ensures c.in_ok-y-in-Three.ensures c.in_ok-z-in-Three.ensures).0
-
-pub three-requires-clause-three_fits : goal.three-requires-clause-three_fits
-three-requires-clause-three_fits t c = (three_asks (arrived c.requires.ready c.requires.i_bound c.expression-r.ensures c.steps_of.ensures c.in-Three.is) c.in_ok-x-in-Three.ensures c.in_ok-y-in-Three.ensures c.in_ok-z-in-Three.ensures).1
-
-pub returns-in_ok-z-in-Three : goal.returns-in_ok-z-in-Three
-returns-in_ok-z-in-Three t c = three_leaves (arrived c.requires.ready c.requires.i_bound c.expression-r.ensures c.steps_of.ensures c.in-Three.is) c.in_ok-x-in-Three.ensures c.in_ok-y-in-Three.ensures c.in_ok-z-in-Three.ensures c.three.ensures
+pub returns-in_ok-y-in-Three : goal.returns-in_ok-y-in-Three
+returns-in_ok-y-in-Three t c = three_leaves (arrived c.requires.ready c.requires.i_bound c.expression-r.ensures c.steps_of.ensures c.in-Three.is) c.in_ok-x-in-Three.ensures c.in_ok-y-in-Three.ensures c.whole-e-in-Three.ensures c.three.ensures

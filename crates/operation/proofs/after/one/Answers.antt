@@ -1,7 +1,5 @@
--- `after::one`: what stands under its op. Assumes nothing.
-use Rattle.operation.specs.ByOp.{ones, one_value}
+-- `after::one`: where the operand has a value. Assumes nothing.
 use Rattle.operation.proofs.after.one.Goals as goal
 
-pub returns-in-11 : goal.returns-in-11
-unfolding one_value ones
-returns-in-11 c = rw c.in-11.is c.extract.ensures.is
+pub of_one-requires : goal.of_one-requires
+of_one-requires c = c.requires.fits _ c.in_ok-e.was

@@ -1,7 +1,5 @@
--- `after::two`: what stands under its op. Assumes nothing.
-use Rattle.operation.specs.ByOp.{twos, two_value}
+-- `after::two`: where the second operand has a value. Assumes nothing.
 use Rattle.operation.proofs.after.two.Goals as goal
 
-pub returns-in-12 : goal.returns-in-12
-unfolding two_value twos
-returns-in-12 c = rw c.in-12.is c.concat.ensures.is
+pub of_two-requires-clause-two_fits : goal.of_two-requires-clause-two_fits
+of_two-requires-clause-two_fits c = c.requires.fits _ c.in_ok-e.was
