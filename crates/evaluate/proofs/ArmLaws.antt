@@ -36,7 +36,7 @@ use Rattle.evaluation.proofs.EvaluationLaws.{fits_stays, fits_bound}
 use Rattle.evaluation.proofs.Formed.{formed}
 use Rattle.running.proofs.EvaluationKeeps.{eval_keeps}
 use Rattle.bindings.specs.declared.Bindings.{Bindings}
-use Rattle.bindings.specs.Bound.{bindings_of, more}
+use Rattle.bindings.specs.Bound.{bindings_of, none, more}
 use Rattle.bindings.proofs.BoundLaws.{whole_more, bindings_more, length-bindings}
 use Rattle.operation.specs.declared.order.Steps.{Steps}
 use Rattle.operation.specs.declared.order.Steps.TheVariants as By
@@ -194,14 +194,22 @@ module _ {s σ : List ℕ} {l : LogBuffer} {b : Bindings} {i : ℕ} {r : Node} {
       ∙ ap (λ (q : Node). eval_by (context s) (room_of l) σ (eval_at s (room_of l) σ) q (steps_of q) (bindings_of b) (held l)) (sym here.is)
       ∙ ap (λ (o : Steps). eval_by (context s) (room_of l) σ (eval_at s (room_of l) σ) r o (bindings_of b) (held l)) here.steps
 
--- a call that goes down from i, which is asked for less than t, to k
-pub down : {t k i : ℕ} {s σ : List ℕ} {l : LogBuffer} {b : Bindings} → 2 * i ≡ t → k < i → i < (header s).expressions → Ready s σ l b
-    → (2 * k + 1 < t) × (Ready s σ l b × (k < (header s).expressions))
+-- a call that goes down from i to k, whose measure is 3 * k + 2, where i's is t
+pub down : {t k i : ℕ} {s σ : List ℕ} {l : LogBuffer} {b : Bindings} → 3 * i ≡ t → k < i → i < (header s).expressions → Ready s σ l b
+    → (3 * k + 2 < t) × (Ready s σ l b × (k < (header s).expressions))
 down e h inside ready = (omega (arith, e), (ready, omega arith))
 
-pub down_whole : {t k i : ℕ} {s σ : List ℕ} {m : LogBuffer} {b : Bindings} → 2 * i ≡ t → k < i → i < (header s).expressions → Ready s σ m b
-    → (2 * k < t) × (Ready s σ m b × (k < (header s).expressions))
+pub down_inside : {t k i n : ℕ} → 3 * i ≡ t → k < i → i < n → (3 * k + 2 < t) × (k < n)
+down_inside e h inside = (omega (arith, e), omega arith)
+
+pub down_whole : {t k i : ℕ} {s σ : List ℕ} {m : LogBuffer} {b : Bindings} → i ≡ t → k < i → i < (header s).expressions → Ready s σ m b
+    → (k < t) × (Ready s σ m b × (k < (header s).expressions))
 down_whole e h inside ready = (omega (arith, e), (ready, omega arith))
+
+-- there is room for the first binding
+pub few_none : none.count < most_bindings
+unfolding none
+few_none = omega arith
 
 -- the error of an operand is handed on
 pub stopped : {l m : LogBuffer} {x : E.Evaluated} {code : Stop} {r : Result Value Stop} → IsErr r × IsErrAnd r (λ y. y ≡ code)

@@ -1,11 +1,12 @@
 // The value of a whole expression, as a statement has it: no binding is in force, so none travels until the walk comes to a let, which
 // hands its body the first.
 ghost use Rattle.std.specs.Prelude.{◌<◌};
+ghost use Rattle.value.specs.Values.{size, type_of};
 ghost use Rattle.table.specs.Bytes as Bytes;
 ghost use Rattle.table.specs.Decode.{context, expr};
 ghost use Rattle.memory.specs.Buffer.{held, room_of};
 ghost use Rattle.evaluation.specs.Evaluation as Evaluation;
-ghost use Rattle.bindings.specs.Bound.{bindings_of, none};
+ghost use Rattle.bindings.specs.Bound.{bindings_of, none, more};
 ghost use Rattle.operation.specs.Outcome.{Leaves};
 ghost use Rattle.evaluate.specs.Ready.{Ready};
 
@@ -14,7 +15,7 @@ use base::codes::Stop;
 use bindings::Bindings;
 use memory::LogBuffer;
 use operation::after;
-use operation::leaf::leaf;
+use operation::leaf::unbound;
 use operation::order::{Steps, steps_of};
 use table::read::Table;
 use value::Value;
@@ -26,7 +27,7 @@ pub fn whole(table: &Table, state: &[u64], log: &mut LogBuffer, i: u32) -> Resul
 {
     let r = table.frame.expression(i);
     match steps_of(r) {
-        Steps::Leaf => Ok(leaf(&table.frame, state, &Bindings::none(), r)),
+        Steps::Leaf => Ok(unbound(&table.frame, state, r)),
         Steps::One(a) => {
             let e = whole(table, state, log, a);
             after::one(r, e)
@@ -38,7 +39,7 @@ pub fn whole(table: &Table, state: &[u64], log: &mut LogBuffer, i: u32) -> Resul
         }
         Steps::Let(a, b) => {
             let x = whole(table, state, log, a)?;
-            eval(table, state, log, Bindings::none().with(r.a, x), b)
+            first(table, state, log, r.a, x, b)
         }
         Steps::Three(a, b, c) => {
             let x = whole(table, state, log, a)?;
@@ -47,4 +48,23 @@ pub fn whole(table: &Table, state: &[u64], log: &mut LogBuffer, i: u32) -> Resul
             after::three(log, r, x, y, e)
         }
     }
+}
+
+// The body of a let that stands in no other's, under its binding alone. A call zeroes the room of its locals, and here are the bindings'.
+#[inline(never)]
+fn first(
+    table: &Table,
+    state: &[u64],
+    log: &mut LogBuffer,
+    x: u32,
+    v: Value,
+    i: u32,
+) -> Result<Value, Stop>
+    requires ready { Ready table.now.frame.bytes.now state.now log.old (more none x v) }
+    requires x_bound { x < 256 }
+    requires v_bound { size (type_of v) < 256 }
+    requires i_bound { i < (Bytes.header table.now.frame.bytes.now).expressions }
+    ensures { Leaves log.old (Evaluation.eval (context table.now.frame.bytes.now) (room_of log.old) state.now (expr table.now.frame.bytes.now i) (bindings_of (more none x v)) (held log.old)) result log.new }
+{
+    eval(table, state, log, Bindings::none().with(x, v), i)
 }

@@ -11,6 +11,9 @@ steps_of_unique a x y s t = is_unique
 pub leaf_unique : (lent : Lfts 4) → OneAnswer (operation.leaf.leaf.Reads.Post lent)
 leaf_unique lent a x y s t = is_unique
 
+pub unbound_unique : (lent : Lfts 3) → OneAnswer (operation.leaf.unbound.Reads.Post lent)
+unbound_unique lent a x y s t = is_unique
+
 pub at_once_unique : (lent : Lfts 4) → OneAnswer (operation.leaf.at_once.Reads.Post lent)
 at_once_unique lent a x y s t = is_unique
 

@@ -1,5 +1,5 @@
 // Expressions without operands.
-ghost use Rattle.std.specs.Prelude.{◌≡◌, ◌*◌, ◌≤◌, ◌<◌, length};
+ghost use Rattle.std.specs.Prelude.{◌≡◌, ◌*◌, ◌≤◌, ◌<◌, [], length};
 ghost use Rattle.table.specs.Bytes as Bytes;
 ghost use Rattle.table.specs.Decode.{context};
 ghost use Rattle.evaluation.specs.State.{in_state};
@@ -63,4 +63,19 @@ pub fn at_once(frame: &Frame, state: &[u64], bindings: &Bindings, i: u32) -> Opt
     ensures { result ≡ at_once (context frame.now.bytes.now) state.now (Bytes.expression frame.now.bytes.now i) (bindings_of bindings.now) }
 {
     of_record(frame, state, bindings, frame.expression(i))
+}
+
+// The value of a record without operands where no binding is in force.
+#[tactic(auto, unfolding(crate::specs::ByOp::leaf_value, crate::specs::ByOp::at_once, crate::specs::ByOp::leaves))]
+pub fn unbound(frame: &Frame, state: &[u64], r: Node) -> Value
+    requires variables_in_bounds { 2 * frame.now.header.variables ≤ length state.now }
+    requires a_lt_variables { r.op ≡ 1 → r.a < frame.now.header.variables }
+    ensures { result ≡ leaf_value (context frame.now.bytes.now) state.now r [] }
+{
+    match r.op {
+        ops::VAR => states::read(state, by_op::type_of(frame, r.a), r.a),
+        ops::WORD => Value::Word(r.p, bytes::word_value(r)),
+        ops::UNKNOWN => Value::Unknown(by_op::unknown(r)),
+        _ => Value::Unknown(ValueType::Imm(1)),
+    }
 }

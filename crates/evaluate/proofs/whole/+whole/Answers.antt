@@ -1,32 +1,25 @@
 -- `whole::whole`: the laws of the walk's ways, where no binding is in force. Assumes nothing.
-use Rattle.std.proofs.Common.{◌≡◌, ◌<◌, subst, sym, ap, ◌∙◌, arith}
+use Rattle.std.proofs.Common.{◌≡◌, ◌<◌, subst, sym, ap, refl, ◌∙◌, arith}
 use Rattle.table.specs.declared.Header.{Header}
 use Rattle.table.specs.Decode.{context}
-use Rattle.bindings.specs.declared.Bindings.{Bindings}
-use Rattle.bindings.specs.Bound.{bindings_of, none, more}
-use Rattle.evaluation.specs.Evaluation.{most_bindings}
+use Rattle.bindings.proofs.BoundLaws.{bindings_none}
 use Rattle.operation.specs.ByOp.{leaf_value}
-use Rattle.evaluate.proofs.ArmLaws.{arrived, down_whole, stopped, leaf_asks, leaf_leaves, one_below, one_asks, one_leaves}
+use Rattle.evaluate.proofs.ArmLaws.{arrived, down_whole, few_none, stopped, leaf_asks, leaf_leaves, one_below, one_asks, one_leaves}
 use Rattle.evaluate.proofs.ArmLaws.{two_below, two_ready, two_stops, two_asks, two_leaves}
 use Rattle.evaluate.proofs.ArmLaws.{let_below, let_asks, let_ready, let_stops, let_leaves}
 use Rattle.evaluate.proofs.ArmLaws.{three_below, three_ready, three_ready_last, three_stops, three_stops_second, three_asks, three_leaves}
 use Rattle.evaluate.proofs.whole.+whole.Goals as goal
 
-few_none : none.count < most_bindings
-unfolding none
-few_none = omega arith
-
 -- ------------------------------------------------------------------------------------------------
 -- No operand, and one
 
-pub leaf-requires-clause-a_lt_variables : goal.leaf-requires-clause-a_lt_variables
-leaf-requires-clause-a_lt_variables t c = subst (λ (h : Header). c.expression-r.result.op ≡ 1 → c.expression-r.result.a < h.variables) (sym c.args.table.now.frame.framed.is) (leaf_asks (arrived c.requires.ready c.requires.i_bound c.expression-r.ensures c.steps_of.ensures c.in-Leaf.is))
+pub unbound-requires-clause-a_lt_variables : goal.unbound-requires-clause-a_lt_variables
+unbound-requires-clause-a_lt_variables t c = subst (λ (h : Header). c.expression-r.result.op ≡ 1 → c.expression-r.result.a < h.variables) (sym c.args.table.now.frame.framed.is) (leaf_asks (arrived c.requires.ready c.requires.i_bound c.expression-r.ensures c.steps_of.ensures c.in-Leaf.is))
 
 pub returns-in-Leaf : goal.returns-in-Leaf
 returns-in-Leaf t c =
-    let s = c.args.table.now.frame.bytes.now in
-    let none_in_force = ap (λ (b : Bindings). leaf_value (context s) c.args.state.now c.expression-r.result (bindings_of b)) c.none.ensures in
-    leaf_leaves (arrived c.requires.ready c.requires.i_bound c.expression-r.ensures c.steps_of.ensures c.in-Leaf.is) (c.leaf.ensures ∙ none_in_force)
+    let none_in_force = ap (leaf_value (context c.args.table.now.frame.bytes.now) c.args.state.now c.expression-r.result) (sym bindings_none) in
+    leaf_leaves (arrived c.requires.ready c.requires.i_bound c.expression-r.ensures c.steps_of.ensures c.in-Leaf.is) (c.unbound.ensures ∙ none_in_force)
 
 pub whole-e-requires : goal.whole-e-requires
 whole-e-requires t c = down_whole c.decreases (one_below (arrived c.requires.ready c.requires.i_bound c.expression-r.ensures c.steps_of.ensures c.in-One.is)) c.requires.i_bound c.requires.ready
@@ -64,23 +57,16 @@ whole-requires-in-Let t c = down_whole c.decreases (let_below (arrived c.require
 pub returns-in_err-x-in-Let : goal.returns-in_err-x-in-Let
 returns-in_err-x-in-Let t c = stopped c.from_residual-in_err-x-in-Let.ensures (let_stops (arrived c.requires.ready c.requires.i_bound c.expression-r.ensures c.steps_of.ensures c.in-Let.is) c.in_err-x-in-Let.ensures)
 
-pub with-requires-clause-count_lt_most_bindings : goal.with-requires-clause-count_lt_most_bindings
-with-requires-clause-count_lt_most_bindings t c = subst (λ (b : Bindings). b.count < most_bindings) (sym c.none-in-Let.ensures) few_none
-
-pub with-requires-clause-x_bound : goal.with-requires-clause-x_bound
-with-requires-clause-x_bound t c = (let_asks (arrived c.requires.ready c.requires.i_bound c.expression-r.ensures c.steps_of.ensures c.in-Let.is) c.in_ok-x-in-Let.ensures).0
-
-pub with-requires-clause-v_bound : goal.with-requires-clause-v_bound
-with-requires-clause-v_bound t c = (let_asks (arrived c.requires.ready c.requires.i_bound c.expression-r.ensures c.steps_of.ensures c.in-Let.is) c.in_ok-x-in-Let.ensures).1
-
-pub eval-requires-clause-ready : goal.eval-requires-clause-ready
-eval-requires-clause-ready t c = let_ready (arrived c.requires.ready c.requires.i_bound c.expression-r.ensures c.steps_of.ensures c.in-Let.is) c.in_ok-x-in-Let.ensures few_none (c.with.ensures ∙ ap (λ (b : Bindings). more b c.expression-r.result.a c.in_ok-x-in-Let.x) c.none-in-Let.ensures)
-
-pub eval-requires-clause-i_bound : goal.eval-requires-clause-i_bound
-eval-requires-clause-i_bound t c = let below = (let_below (arrived c.requires.ready c.requires.i_bound c.expression-r.ensures c.steps_of.ensures c.in-Let.is)).1 in let inside = c.requires.i_bound in omega arith
+pub first-requires : goal.first-requires
+first-requires t c =
+    let here = (arrived c.requires.ready c.requires.i_bound c.expression-r.ensures c.steps_of.ensures c.in-Let.is) in
+    let small = let_asks here c.in_ok-x-in-Let.ensures in
+    let below = (let_below here).1 in
+    let inside = c.requires.i_bound in
+    record { ready = let_ready here c.in_ok-x-in-Let.ensures few_none refl; x_bound = small.0; v_bound = small.1; i_bound = omega arith }
 
 pub returns-in_ok-x-in-Let : goal.returns-in_ok-x-in-Let
-returns-in_ok-x-in-Let t c = let_leaves (arrived c.requires.ready c.requires.i_bound c.expression-r.ensures c.steps_of.ensures c.in-Let.is) c.in_ok-x-in-Let.ensures few_none (c.with.ensures ∙ ap (λ (b : Bindings). more b c.expression-r.result.a c.in_ok-x-in-Let.x) c.none-in-Let.ensures) c.eval.ensures
+returns-in_ok-x-in-Let t c = let_leaves (arrived c.requires.ready c.requires.i_bound c.expression-r.ensures c.steps_of.ensures c.in-Let.is) c.in_ok-x-in-Let.ensures few_none refl c.first.ensures
 
 -- ------------------------------------------------------------------------------------------------
 -- Three
