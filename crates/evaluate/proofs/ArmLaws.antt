@@ -1,13 +1,14 @@
 -- Each way of the walk: what it asks of the next call, and that it leaves what the evaluation of its expression leaves. Assumes nothing.
 use mathlib.Core.Path.{◌≡◌, refl, sym, ap, subst, ◌∙◌}
 use mathlib.Core.Bool.{true, false}
-use mathlib.Core.List.{List, ◌∷◌}
+use mathlib.Core.List.{List, [], ◌∷◌}
 use Prim.Native.Nat.{ℕ, ◌+◌, ◌*◌, ◌≤◌, ◌<◌}
 use native.Mathlib.Omega.{arith}
 use lib.Dec.{ltb}
 use lib.ListN.{length}
 use borrow.Author.Tests.{lt-ltb, le-ltb}
 use Rattle.std.specs.Prelude.{Option, Some, None, Result, Ok, Err}
+use Rattle.std.specs.Option.{unwrap_or}
 use Rattle.std.specs.Result.{IsErr, IsErrAnd}
 use Rattle.std.proofs.lemmas.Result.{err_from_is_err_and}
 use Rattle.base.specs.declared.codes.Stop.{Stop}
@@ -18,6 +19,7 @@ use Rattle.base.proofs.NumberedLaws.{end, ◌then◌, numbered_all}
 use Rattle.value.specs.declared.ValueType.{ValueType}
 use Rattle.value.specs.declared.Value.{Value}
 use Rattle.value.specs.Values.{Sound, type_of, size}
+use Rattle.table.specs.declared.Header.{Header}
 use Rattle.table.specs.declared.Node.{Node}
 use Rattle.table.specs.Bytes.{header, expression}
 use Rattle.table.specs.Decode.{Context, context, expr}
@@ -37,11 +39,11 @@ use Rattle.evaluation.proofs.Formed.{formed}
 use Rattle.running.proofs.EvaluationKeeps.{eval_keeps}
 use Rattle.bindings.specs.declared.Bindings.{Bindings}
 use Rattle.bindings.specs.Bound.{bindings_of, none, more}
-use Rattle.bindings.proofs.BoundLaws.{whole_more, bindings_more, length-bindings}
+use Rattle.bindings.proofs.BoundLaws.{whole_more, bindings_none, bindings_more, length-bindings}
 use Rattle.operation.specs.declared.order.Steps.{Steps}
 use Rattle.operation.specs.declared.order.Steps.TheVariants as By
 use Rattle.operation.specs.Order.{orders, steps_of}
-use Rattle.operation.specs.ByOp.{leaves, at_once, value_in, leaf_value, one_value, two_value, three_value, OneFits, TwoFits, ThreeFits}
+use Rattle.operation.specs.ByOp.{leaves, at_once, value_in, no_value, leaf_value, one_value, two_value, three_value, OneFits, TwoFits, ThreeFits}
 use Rattle.logs.specs.Held.{Holds}
 use Rattle.operation.specs.After.{AfterOne, AfterTwo, AfterThree, one_after, two_after, three_after}
 use Rattle.operation.specs.Outcome.{Leaves, log_in}
@@ -202,8 +204,8 @@ down e h inside ready = (omega (arith, e), (ready, omega arith))
 pub down_inside : {t k i n : ℕ} → 3 * i ≡ t → k < i → i < n → (3 * k + 2 < t) × (k < n)
 down_inside e h inside = (omega (arith, e), omega arith)
 
-pub down_whole : {t k i : ℕ} {s σ : List ℕ} {m : LogBuffer} {b : Bindings} → i ≡ t → k < i → i < (header s).expressions → Ready s σ m b
-    → (k < t) × (Ready s σ m b × (k < (header s).expressions))
+pub down_whole : {t k i : ℕ} {s σ : List ℕ} {m : LogBuffer} {b : Bindings} → 2 * i ≡ t → k < i → i < (header s).expressions → Ready s σ m b
+    → (2 * k + 1 < t) × (Ready s σ m b × (k < (header s).expressions))
 down_whole e h inside ready = (omega (arith, e), (ready, omega arith))
 
 -- there is room for the first binding
@@ -500,3 +502,25 @@ module _ {s σ : List ℕ} {l : LogBuffer} {b : Bindings} {i : ℕ} (ready : Rea
   at_once_leaves is found =
       let there = sym is ∙ found in
       leaf_leaves (here (at_once_leaf (context s) σ (expression s i) (bindings_of b) there)) (sym (ap value_in there))
+
+-- where no binding is in force
+pub unbound_asks : {s σ : List ℕ} {l : LogBuffer} {b : Bindings} {i : ℕ} {h : Header} → h ≡ header s → Ready s σ l b → i < (header s).expressions
+    → (expression s i).op ≡ 1 → (expression s i).a < h.variables
+unbound_asks {s} {i = i} is ready inside op = subst (λ (h : Header). (expression s i).a < h.variables) (sym is) (variable_asks ready inside op)
+
+pub unbound_leaves : {s σ : List ℕ} {l : LogBuffer} {i : ℕ} (ready : Ready s σ l none) (inside : i < (header s).expressions) {w : Option Value} {v : Value}
+    → w ≡ at_once (context s) σ (expression s i) [] → w ≡ Some v → Call s σ l none i (Ok v) l
+unbound_leaves {s} {σ} {i = i} ready inside is found =
+    at_once_leaves ready inside (is ∙ ap (at_once (context s) σ (expression s i)) (sym bindings_none)) found
+
+value_or : (w : Option Value) → unwrap_or w no_value ≡ value_in w
+value_or (Some v) = refl
+value_or None = refl
+
+pub leaf_unbound : (s σ : List ℕ) (i : ℕ) {r : Node} {w : Option Value} {v : Value} → r ≡ expression s i → w ≡ at_once (context s) σ (expression s i) []
+    → v ≡ unwrap_or w no_value → v ≡ leaf_value (context s) σ r (bindings_of none)
+unfolding leaf_value
+leaf_unbound s σ i {r} {w} is found p =
+    p
+    ∙ value_or w
+    ∙ ap value_in (found ∙ ap (λ (r : Node). at_once (context s) σ r []) (sym is) ∙ ap (at_once (context s) σ r) (sym bindings_none))

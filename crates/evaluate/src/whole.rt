@@ -18,16 +18,33 @@ use operation::after;
 use operation::leaf::unbound;
 use operation::order::{Steps, steps_of};
 use table::read::Table;
-use value::Value;
+use value::{Value, ValueType};
 
+#[cycle(whole_step)]
 pub fn whole(table: &Table, state: &[u64], log: &mut LogBuffer, i: u32) -> Result<Value, Stop>
+    requires ready { Ready table.now.frame.bytes.now state.now log.old none }
+    requires i_bound { i < (Bytes.header table.now.frame.bytes.now).expressions }
+    ensures { Leaves log.old (Evaluation.eval (context table.now.frame.bytes.now) (room_of log.old) state.now (expr table.now.frame.bytes.now i) (bindings_of none) (held log.old)) result log.new }
+{
+    match unbound(&table.frame, state, i) {
+        Some(v) => Ok(v),
+        None => step(table, state, log, i),
+    }
+}
+
+// An expression with operands. It is a function of its own, since a call zeroes the room of its locals, and one without operands needs none.
+#[cycle(whole_step)]
+#[inline(never)]
+fn step(table: &Table, state: &[u64], log: &mut LogBuffer, i: u32) -> Result<Value, Stop>
     requires ready { Ready table.now.frame.bytes.now state.now log.old none }
     requires i_bound { i < (Bytes.header table.now.frame.bytes.now).expressions }
     ensures { Leaves log.old (Evaluation.eval (context table.now.frame.bytes.now) (room_of log.old) state.now (expr table.now.frame.bytes.now i) (bindings_of none) (held log.old)) result log.new }
 {
     let r = table.frame.expression(i);
     match steps_of(r) {
-        Steps::Leaf => Ok(unbound(&table.frame, state, r)),
+        Steps::Leaf => Ok(unbound(&table.frame, state, i).unwrap_or(Value::Unknown(ValueType::Imm(
+            1,
+        )))),
         Steps::One(a) => {
             let e = whole(table, state, log, a);
             after::one(r, e)
@@ -50,7 +67,7 @@ pub fn whole(table: &Table, state: &[u64], log: &mut LogBuffer, i: u32) -> Resul
     }
 }
 
-// The body of a let that stands in no other's, under its binding alone. A call zeroes the room of its locals, and here are the bindings'.
+// The body of a let that stands in no other's, under its binding alone. Its locals are the bindings.
 #[inline(never)]
 fn first(
     table: &Table,

@@ -65,17 +65,19 @@ pub fn at_once(frame: &Frame, state: &[u64], bindings: &Bindings, i: u32) -> Opt
     of_record(frame, state, bindings, frame.expression(i))
 }
 
-// The value of a record without operands where no binding is in force.
-#[tactic(auto, unfolding(crate::specs::ByOp::leaf_value, crate::specs::ByOp::at_once, crate::specs::ByOp::leaves))]
-pub fn unbound(frame: &Frame, state: &[u64], r: Node) -> Value
+// The same where no binding is in force.
+#[tactic(auto, unfolding(crate::specs::ByOp::at_once, crate::specs::ByOp::leaves))]
+pub fn unbound(frame: &Frame, state: &[u64], i: u32) -> Option<Value>
     requires variables_in_bounds { 2 * frame.now.header.variables ≤ length state.now }
-    requires a_lt_variables { r.op ≡ 1 → r.a < frame.now.header.variables }
-    ensures { result ≡ leaf_value (context frame.now.bytes.now) state.now r [] }
+    requires i_lt_expressions { i < frame.now.header.expressions }
+    requires i_bound { (Bytes.expression frame.now.bytes.now i).op ≡ 1 → (Bytes.expression frame.now.bytes.now i).a < frame.now.header.variables }
+    ensures { result ≡ at_once (context frame.now.bytes.now) state.now (Bytes.expression frame.now.bytes.now i) [] }
 {
+    let r = frame.expression(i);
     match r.op {
-        ops::VAR => states::read(state, by_op::type_of(frame, r.a), r.a),
-        ops::WORD => Value::Word(r.p, bytes::word_value(r)),
-        ops::UNKNOWN => Value::Unknown(by_op::unknown(r)),
-        _ => Value::Unknown(ValueType::Imm(1)),
+        ops::VAR => Some(states::read(state, by_op::type_of(frame, r.a), r.a)),
+        ops::WORD => Some(Value::Word(r.p, bytes::word_value(r))),
+        ops::UNKNOWN => Some(Value::Unknown(by_op::unknown(r))),
+        _ => None,
     }
 }
