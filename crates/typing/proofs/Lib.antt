@@ -1,4 +1,5 @@
 pub mod BlockLaws
+pub mod CastLaws
 pub mod EqLaws
 pub mod JudgedTypes
 pub mod OperandTypes

@@ -1,3 +1,4 @@
+pub mod ChoiceLaws
 pub mod Slips
 pub mod Unique
 pub mod ValueLaws

@@ -1,5 +1,5 @@
 -- What the operations on values give is sound and has the type that the type rules say. Assumes nothing.
-use Rattle.std.proofs.Common.{◌≡◌, refl, sym, subst, true, false, ℕ, ◌+◌, ◌-◌, ◌/◌, ◌^◌, ◌<◌, ◌≤◌, eqb, leb, lit≤, arith, if◌then◌else◌, Option, Some, None}
+use Rattle.std.proofs.Common.{◌≡◌, refl, sym, ap, subst, ◌∙◌, true, false, ℕ, ◌+◌, ◌-◌, ◌/◌, ◌^◌, ◌<◌, ◌≤◌, eqb, leb, lit≤, arith, if◌then◌else◌, Option, Some, None}
 use Rattle.word.specs.Words.{Width, IsWord, AreWords, FitsIn}
 use Rattle.word.proofs.FitLaws.{mod_fits, concat_fits}
 use Rattle.word.proofs.SubLaws.{binary_fits, unary_fits, cast_fits}
@@ -29,7 +29,11 @@ binary_width-ok sub w h =
     elim (leb sub 13) as (λ t. Width (if t then w else 1)) [ true ↦ h | false ↦ record { least = lit≤ tt; most = lit≤ tt } ]
 
 -- ------------------------------------------------------------------------------------------------
--- A computed word, or unknown
+-- What an operation promises, from an equation
+
+-- a value that is another, which is sound and of type t
+pub yields : (t : ValueType) (x : Value) → Sound x → type_of x ≡ t → (r : Value) → r ≡ x → Yields t x r
+yields t x s h r e = record { is = e; sound = subst Sound (sym e) s; type = ap type_of e ∙ h }
 
 pub computed_sound : (w : ℕ) (c : Option ℕ) → Width w → FitsIn w c → Sound (Values.computed w c)
 computed_sound w (Some r) h f = record { width = h; fits = f }
@@ -41,6 +45,10 @@ computed_type w None = refl
 
 -- ------------------------------------------------------------------------------------------------
 -- Op 5, binary
+
+-- two words whose types are the same have one width
+pub same_width : (x y : Value) {w v a b : ℕ} → x ≡ Word w a → y ≡ Word v b → type_of x ≡ type_of y → w ≡ v
+same_width x y {w} {v} p q h = let e : Imm w ≡ Imm v = sym (ap type_of p) ∙ h ∙ ap type_of q in cc
 
 pub are_words : {w v a b : ℕ} → IsWord w a → IsWord v b → w ≡ v → AreWords w a b
 are_words {b = b} s r e = record { width = s.width; left = s.fits; right = subst (λ (n : ℕ). b < 2 ^ n) (sym e) r.fits }
