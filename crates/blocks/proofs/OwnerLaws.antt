@@ -3,17 +3,18 @@
 use mathlib.Core.Path.{◌≡◌, refl, sym, ◌∙◌, ap}
 use mathlib.Core.Bool.{Bool}
 use mathlib.Core.List.{List}
-use Prim.Native.Nat.{ℕ, zero, suc, ◌≤◌, ◌<◌}
+use Prim.Native.Nat.{ℕ, zero, suc, ◌+◌, ◌≤◌, ◌<◌}
 use native.Mathlib.Decide.{dec_lt, dec_le}
 use native.Mathlib.Nat.{le_trans}
 use native.Mathlib.Omega.{arith}
 use lib.Dec.{ltb}
-use lib.ListN.{get_or}
+use lib.ListN.{length, get_or, set}
+use lib.Seq.{get_or-set_same, get_or-set_other}
 use borrow.Author.Tests.{lt-ltb, le-ltb}
 use Rattle.std.specs.Prelude.{if◌then◌else◌}
 use Rattle.table.specs.Bytes.{header}
 use Rattle.table.specs.Records.{first_end, second_end, block_end}
-use Rattle.blocks.specs.Owners.{owner, Known}
+use Rattle.blocks.specs.Owners.{owner, FirstAre, Known}
 use Rattle.table.proofs.Nesting.{end_below, block_end-is, end_outermost, first_le_second, Around, in_first, in_second, in_neither, around}
 
 module _ (s : List ℕ) (i : ℕ) where
@@ -145,3 +146,17 @@ module _ (s : List ℕ) (i : ℕ) where
   pub second_body-end : (j : ℕ) → owner s i i ≡ suc j → first_end s j ≤ i → block_end s i ≡ second_end s j
   unfolding end_at
   second_body-end j e h = by_owner (suc j) e ∙ ap (λ (t : Bool). if t then first_end s j else second_end s j) (le-ltb i (first_end s j) h)
+
+-- ------------------------------------------------------------------------------------------------
+-- A list that is filled from the front
+
+pub first_none : {f : ℕ → ℕ} {list : List ℕ} → FirstAre f 0 list
+first_none = record { at = λ k h. absurd (omega arith) }
+
+pub first_more :
+    {f : ℕ → ℕ} {n v : ℕ} {list : List ℕ} → FirstAre f n list → n < length list → v ≡ f n → FirstAre f (n + 1) (set list n v)
+first_more {f} {n} {v} {list} first room is = record { at = λ k h. go k h (dec_lt k n) }
+  where
+    go : (k : ℕ) → k < n + 1 → Dec (k < n) → get_or (set list n v) k 0 ≡ f k
+    go k h (yes l) = get_or-set_other list n k v 0 (λ e. absurd (omega arith)) ∙ first.at k l
+    go k h (no l) = let e : k ≡ n = omega arith in rw e (get_or-set_same list n v 0 room ∙ is)

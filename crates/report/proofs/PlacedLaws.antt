@@ -1,6 +1,6 @@
 -- Texts put one behind the other are their join put at once. Assumes nothing.
-use Rattle.std.proofs.Common.{◌≡◌, refl, sym, ap, ap₂, ◌∙◌, List, [], ◌∷◌, ◌++◌, ℕ, suc, ◌+◌, ◌≤◌, add-zero, arith, length, set, take, drop, length-append}
-use lib.Seq.{sets}
+use Rattle.std.proofs.Common.{◌≡◌, refl, sym, ap, ap₂, ◌∙◌, List, [], ◌∷◌, ◌++◌, ℕ, suc, ◌+◌, ◌≤◌, ◌<◌, add-zero, arith, length, get_or, set, take, drop, length-append}
+use lib.Seq.{sets, take-suc, length-take-le}
 use Rattle.std.proofs.lemmas.List.{append_assoc}
 use Rattle.std.proofs.lemmas.List.Edits.{sets-eq, paste_all}
 use Rattle.std.proofs.lemmas.Slice.{put_mid-paste}
@@ -12,6 +12,13 @@ pub sets_append : (t u l : List ℕ) (at : ℕ) → sets l at (t ++ u) ≡ sets 
 sets_append [] u l at = ap (λ (k : ℕ). sets l k u) (sym (add-zero at))
 sets_append (x ∷ t) u l at =
     sets_append t u (set l at x) (suc at) ∙ ap (λ (k : ℕ). sets (sets (set l at x) (suc at) t) k u) (omega arith)
+
+-- one byte more of a text
+pub sets_more : (l text : List ℕ) (at i : ℕ) → i < length text → sets l at (take (suc i) text) ≡ set (sets l at (take i text)) (at + i) (get_or text i 0)
+sets_more l text at i h =
+    ap (sets l at) (take-suc text i 0 h)
+    ∙ sets_append (take i text) (get_or text i 0 ∷ []) l at
+    ∙ ap (λ (k : ℕ). set (sets l at (take i text)) (at + k) (get_or text i 0)) (length-take-le i text (omega arith))
 
 -- a text that is put into a part of as many places
 pub put_sets :

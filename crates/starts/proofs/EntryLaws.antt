@@ -35,7 +35,7 @@ regrouped L n e h =
     (eqb e.previous 0 || eqb (width_at L e.previous) e.width))
 
 -- entry n of a buffer, with those before it
-newest_regrouped : (l : List ℕ) (n before : ℕ) {e : Entry} → n ≡ suc before → e ≡ entry_at l (entry_size * before)
+pub newest_regrouped : (l : List ℕ) (n before : ℕ) {e : Entry} → n ≡ suc before → e ≡ entry_at l (entry_size * before)
     → newest_ok (entries l n) ≡ (in_limits e && linked (entries l before) before e)
 unfolding entries
 newest_regrouped l n i later is = rw (later, is) (regrouped (entries l i) i (entry_at l (entry_size * i)) (length-entries l i))
