@@ -1,2 +1,3 @@
 pub mod RunCallLaws
+pub mod TestLaws
 pub mod Unique

@@ -34,7 +34,7 @@ use Rattle.execute.specs.Begun.{Begins, GuardLeaves}
 use Rattle.execute.specs.Extent.{bodies_of}
 use Rattle.execute.proofs.ThenLaws.{then_end}
 use Rattle.execute.proofs.SplitLaws.{no_tick, first_good}
-use Rattle.execute.proofs.EndedLaws.{ends, Came, came_begun, comes_to_end}
+use Rattle.execute.proofs.EndedLaws.{ends, Came, came_first, came_begun, comes_to_end}
 use Rattle.execute.proofs.LoopLaws.{done_then, halted_then, came_ends}
 use Rattle.execute.proofs.TestLaws.{guarded, test_went, test_holds, test_fails, test_stops}
 
@@ -170,6 +170,20 @@ pub record Begun (op : ℕ) (s : List ℕ) (m₀ : Machine) (t₀ : ℕ) (whole 
 pub begun : {op : ℕ} {s : List ℕ} {m₀ m q : Machine} {t₀ i : ℕ} {whole : Left} {r : Node} → Standing s i → r ≡ statement s i → r.op ≡ op
     → Came s m₀ t₀ whole (block_at s i (suc (bodies_of r))) m m.ticks → Begins m q → Begun op s m₀ t₀ whole i r q
 begun at is op came h = record { at = at; is = is; by = op; came = came_begun came h }
+
+-- where a tick is left it can be begun
+pub tick_begins : {m : Machine} → (m.ticks ≡ 0 → ⊥) → Begins m (record { state = m.state; log = m.log; ticks = m.ticks - 1; next = m.next })
+tick_begins some = record { ticks = omega (arith, some); state = refl; log = refl; next = refl }
+
+-- an if is begun, from the start
+pub if_begun : {s : List ℕ} {m q : Machine} {i : ℕ} {r : Node} → Running s m → Standing s i → r ≡ statement s i → r.op ≡ 6 → Begins m q
+    → Begun 6 s m m.ticks (runs s m m.ticks (block_at s i (suc (bodies_of r)))) i r q
+if_begun {s} {m} {i = i} {r = r} here at is op = begun at is op (came_first m.ticks (block_at s i (suc (bodies_of r))) here)
+
+-- a while is begun, at a turn
+pub turn_begun : {s : List ℕ} {m₀ m q : Machine} {t₀ i : ℕ} {whole : Left} {r : Node} → Standing s i → r ≡ statement s i → r.op ≡ 5
+    → Came s m₀ t₀ whole (block_at s i (suc (bodies_of r))) m m.ticks → Begins m q → Begun 5 s m₀ t₀ whole i r q
+turn_begun = begun
 
 module _ {op : ℕ} {s : List ℕ} {m₀ m : Machine} {t₀ i : ℕ} {whole : Left} {r : Node} (h : Begun op s m₀ t₀ whole i r m) where
   abbrev table : RecordsHold s

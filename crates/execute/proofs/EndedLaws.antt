@@ -4,10 +4,14 @@ use mathlib.Core.List.{List}
 use Prim.Native.Nat.{ℕ, suc, ◌≤◌}
 use native.Mathlib.Omega.{arith}
 use Rattle.std.specs.Prelude.{Result, Ok, Err, ⊤}
-use Rattle.table.specs.Decode.{context}
+use Rattle.base.specs.declared.Refusal.{Refusal}
+use Rattle.base.specs.declared.codes.Stop.{Stop}
+use Rattle.table.specs.Decode.{Context, context}
 use Rattle.table.specs.Syntax.{Block}
 use Rattle.memory.specs.Buffer.{held, room_of}
 use Rattle.logs.proofs.AfterLaws.{becomes_held}
+use Rattle.running.specs.declared.Ending.{Ending}
+use Rattle.running.specs.declared.Ending.TheVariants.{Refused, Stopped}
 use Rattle.running.specs.Run.{Left, left, run}
 use Rattle.running.proofs.PairLaws.{declared}
 use Rattle.running.specs.Standing.{Stands}
@@ -68,6 +72,17 @@ module _ {s : List ℕ} {m q : Machine} {t : ℕ} {x : Left} (k : Block) where
   pub halts_onward : {h : Halt} → Ended s m t x (Err h) q → onward (context s) (room_of m.log.now) x k ≡ x
   unfolding onward left
   halts_onward e = ap (λ (x : Left). onward (context s) (room_of m.log.now) x k) e.is ∙ sym e.is
+
+-- an ending after which nothing more is run
+pub data Halts (e : Ending) : Type 0 where
+  refuses : {refusal : Refusal} → e ≡ Refused refusal → Halts e
+  stops : {code : Stop} {place : ℕ} → e ≡ Stopped code place → Halts e
+
+-- whatever left it
+pub halts_there : (Γ : Context) (room : ℕ) (x : Left) (k : Block) → Halts x.ending → onward Γ room x k ≡ x
+unfolding onward
+halts_there Γ room x k (refuses d) = rw d refl
+halts_there Γ room x k (stops d) = rw d refl
 
 -- ------------------------------------------------------------------------------------------------
 -- A run that began earlier, from machine m₀ with t₀ ticks, and has come to machine m with t

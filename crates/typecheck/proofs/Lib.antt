@@ -1,2 +1,4 @@
+pub mod NamedLaws
 pub mod Unique
 pub mod VerdictLaws
+pub mod WalkLaws
