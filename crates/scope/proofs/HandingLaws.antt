@@ -89,13 +89,9 @@ module _ (r : Node) (i : ℕ) {a b ks : List ℕ} (named : ks ≡ operands (expr
   handed_to_all no-let =
       record { long = f.long; body = λ e. absurd (no-let e); operand = λ k h n. stored.here k h; other = stored.other }
 
-  -- a let's body has its place
-  pub body_place : r.op ≡ 8 → AllBelow (length a) (operands (expression_row r) r) → r.c < length b
-  body_place op below = rw f.long (stands_below below (body_stands r op))
-
-  pub handed_to_body : r.op ≡ 8 → AllBelow (length a) (operands (expression_row r) r) → HandedDown r i a (set b r.c (i + 1))
-  handed_to_body op below =
-      let g = stored_one b r.c (i + 1) (body_place op below) in
+  -- whatever was stored at a let's body alone
+  pub handed_to_place : {c : List ℕ} → r.op ≡ 8 → Stored (i + 1) (r.c ∷ []) b c → HandedDown r i a c
+  handed_to_place op g =
       record {
         long = g.long ∙ f.long;
         body = λ e. g.here r.c (stands_first r.c []);
@@ -104,3 +100,10 @@ module _ (r : Node) (i : ℕ) {a b ks : List ℕ} (named : ks ≡ operands (expr
             g.other k (λ q. h (subst (λ (k : ℕ). Stands k (operands (expression_row r) r)) (sym (stands_one q)) (body_stands r op)))
             ∙ stored.other k h;
       }
+
+  -- a let's body has its place
+  pub body_place : r.op ≡ 8 → AllBelow (length a) (operands (expression_row r) r) → r.c < length b
+  body_place op below = rw f.long (stands_below below (body_stands r op))
+
+  pub handed_to_body : r.op ≡ 8 → AllBelow (length a) (operands (expression_row r) r) → HandedDown r i a (set b r.c (i + 1))
+  handed_to_body op below = handed_to_place op (stored_one b r.c (i + 1) (body_place op below))
