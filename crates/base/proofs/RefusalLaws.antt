@@ -219,3 +219,11 @@ refuses_on a b {r = r} is given on = answer_itself r ∙ hands_on r (refuses_her
 
 pub answers_next : (a b : List Rule) {r x : Answer} → r ≡ refusal a → r ≡ Accepted → x ≡ refusal b → x ≡ refusal (a ++ b)
 answers_next a b is given next = next ∙ sym (refusal_rest a b (sym is ∙ given))
+
+-- two rules of which the second is asked where the first accepts
+module _ (a b : Rule) {x r : Answer} (first : x ≡ refusal (a ∷ [])) where
+  pub first_refuses : {e : Refusal} → r ≡ Err e → x ≡ Err e → r ≡ refusal (a ∷ b ∷ [])
+  first_refuses on given = on ∙ refuses_here (a ∷ []) (b ∷ []) first given
+
+  pub first_accepts : x ≡ Accepted → r ≡ refusal (b ∷ []) → r ≡ refusal (a ∷ b ∷ [])
+  first_accepts given second = answers_next (a ∷ []) (b ∷ []) first given second

@@ -40,6 +40,7 @@ pub fn place_of(a: Answer) -> u32
 }
 
 // The answer of two rules of which the second is broken at a place: the first rule's refusal, and where it accepts that of the second.
+#[tactic(auto, using(crate::proofs::RefusalLaws::first_refuses, crate::proofs::RefusalLaws::first_accepts))]
 pub fn or_refused(first: Answer, code: Code, place: u32) -> Answer
     ensures { (a b : Rule) → first ≡ refusal (a ∷ []) → Refused code place ≡ refusal (b ∷ []) → result ≡ refusal (a ∷ b ∷ []) }
 {
