@@ -1,1 +1,2 @@
+pub mod RecordsLaws
 pub mod Unique

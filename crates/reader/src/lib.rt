@@ -12,6 +12,7 @@ use records::variables::variables;
 use table::read::{Frame, Table};
 
 // The first of refusals 5 to 7 that comes, at its lowest place.
+#[tactic(auto, using(crate::proofs::RecordsLaws::answers))]
 fn records_hold(frame: &Frame) -> Answer
     ensures { result ≡ refusal (record_rules frame.now.bytes.now) }
 {
