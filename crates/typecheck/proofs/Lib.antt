@@ -1,3 +1,4 @@
+pub mod LoopLaws
 pub mod NamedLaws
 pub mod Unique
 pub mod VerdictLaws

@@ -4,10 +4,9 @@ ghost use Rattle.base.specs.Refusals.{Accepted, refusal};
 ghost use Rattle.forest.specs.Forest.{use_rule};
 ghost use Rattle.typing.specs.Verdict.{expression_type_rule, type_rules};
 
-use crate::walk::{Types, type_at};
+use crate::walk::{keeps, type_at};
 use base::codes::Code;
 use base::{Answer, first_fault, or_refused};
-use judging::keeps;
 use table::read::Table;
 
 // Refusal 12 at the lowest expression without a type.
@@ -27,7 +26,7 @@ pub fn types_ok(table: &Table) -> Answer
     ensures { result ≡ refusal (type_rules table.now.frame.bytes.now) }
 {
     for i in 0..table.frame.header.statements {
-        if !keeps::<Types>(table, i) {
+        if !keeps(table, i) {
             return or_refused(lowest_untyped(table), Code::StatementType, i);
         }
     }

@@ -1,4 +1,4 @@
-// The judgement of types, and the type of an expression.
+// The judgement of types, the type of an expression, and the rule of a statement.
 #![tactic(auto, using(typing::proofs::StrictLaws::one_none, typing::proofs::StrictLaws::two_first, typing::proofs::StrictLaws::two_second, typing::proofs::StrictLaws::three_first, typing::proofs::StrictLaws::three_second, typing::proofs::StrictLaws::three_third))]
 
 ghost use Rattle.std.specs.Prelude.{◌≡◌, ◌+◌, ◌≤◌, ◌<◌};
@@ -100,4 +100,13 @@ pub fn type_at(table: &Table, i: u32) -> Option<ValueType>
     ensures { result ≡ infer (context table.now.frame.bytes.now) (expr table.now.frame.bytes.now i) }
 {
     judged::<Types>(table, i)
+}
+
+// Whether statement i keeps the rule of types.
+#[tactic(auto, using(judging::proofs::NamedLaws::loop_expression, crate::proofs::LoopLaws::loop_typed))]
+pub(crate) fn keeps(table: &Table, i: u32) -> bool
+    requires { i < table.now.frame.header.statements }
+    ensures { result ≡ statement_typed table.now.frame.bytes.now i }
+{
+    judging::keeps::<Types>(table, i)
 }
