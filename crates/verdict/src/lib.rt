@@ -18,6 +18,7 @@ use table::read::Table;
 use typecheck::rules::types_ok;
 
 // The first of refusals 8 to 13 that comes.
+#[tactic(auto, using(crate::proofs::EntryLaws::forest_answers))]
 fn forest_and_types(table: &Table) -> Answer
     ensures { result ≡ refusal (forest_rules table.now.frame.bytes.now ++ type_rules table.now.frame.bytes.now) }
 {
@@ -44,6 +45,7 @@ pub fn check(s: &[u8]) -> Answer
 }
 
 // The first of refusals 1 to 15 that comes, at its lowest place.
+#[tactic(auto, using(crate::proofs::EntryLaws::seal_answers))]
 pub fn seal_check(s: &[u8]) -> Answer
     ensures { result ≡ Sealing.seal_check s.now }
 {
