@@ -1,6 +1,6 @@
 -- Bytes appended one after the other to the log that a buffer holds. Assumes nothing.
 use Rattle.std.proofs.Common.{◌≡◌, ℕ, suc, ◌+◌, ◌*◌, ◌/◌, ◌<◌, ◌≤◌, Bool, true, false, List, ◌∷◌, length, get_or, drop, sym, refl, ap, subst, ◌∙◌, arith, drop_of_length-le, drop-cons, le-ltb, lt-ltb}
-use lib.Seq.{sets}
+use lib.Seq.{sets, length-sets}
 use Rattle.std.specs.Prelude.{Result, Ok, Err}
 use Rattle.std.specs.Result.{IsErr}
 use Rattle.base.proofs.BoolLaws.{impossible}
@@ -13,7 +13,8 @@ use Rattle.memory.specs.Log.{Log, entry_size, fields_of}
 use Rattle.memory.specs.Buffer.{held, room_of, Becomes, Pushed}
 use Rattle.memory.specs.Access as Access
 use Rattle.memory.specs.Access.{Stored, stored, append, store, bytes_in, head_of, succ}
-use Rattle.memory.proofs.LogLaws.{length-entries, length-holding}
+use Rattle.memory.proofs.LogLaws.{length-entries}
+use Rattle.memory.proofs.AccessKeeps.{length-bytes_in}
 use Rattle.memory.proofs.AccessLaws.{entry, append_fits, append_full}
 use Rattle.logs.specs.Storing.{Leaves, answer, log_in}
 use Rattle.logs.proofs.HoldingLaws.{holding_entries, holding_newer}
@@ -32,11 +33,12 @@ pub record Appending (b : LogBuffer) (w : ℕ) (bytes : List ℕ) (x : Stored) (
   pub log : Log
   pub becomes : Becomes b log c
   pub fits : entry_size * c.count ≤ length b.numbers.now
+  pub long : length c.numbers.now ≡ length b.numbers.now
   pub makes : x ≡ append (room_of b) w (drop i bytes) newest at log
 
 pub appending_starts : (b : LogBuffer) (w : ℕ) (bytes : List ℕ) (head a : ℕ) → entry_size * b.count ≤ length b.numbers.now
     → Appending b w bytes (append (room_of b) w bytes head a (held b)) b head a 0
-appending_starts b w bytes head a h = record { log = held b; becomes = becomes_same b h; fits = h; makes = refl }
+appending_starts b w bytes head a h = record { log = held b; becomes = becomes_same b h; fits = h; long = refl; makes = refl }
 
 -- there is one refusal
 is_full : (r : Result Value Full) → IsErr r → r ≡ Err (record {})
@@ -49,19 +51,16 @@ leaves_log {b} {c} x y e h = record { is = ap answer (sym e); log = subst (λ (y
 
 module _ (b : LogBuffer) (w : ℕ) (bytes : List ℕ) (x : Stored) {c : LogBuffer} {newest at i : ℕ} (p : Appending b w bytes x c newest at i) where
   pub appending_long : length c.numbers.now ≡ length b.numbers.now
-  appending_long =
-      let n = p.becomes.count in
-      let f = p.fits in
-      ap length p.becomes.holds ∙ length-holding b.numbers.now p.log (omega arith)
+  appending_long = p.long
 
   pub appending_room : entry_size * c.count ≤ length c.numbers.now
   appending_room =
-      let n = appending_long in
+      let n = p.long in
       let f = p.fits in
       omega arith
 
   same_room : room_of c ≡ room_of b
-  same_room = ap (λ (n : ℕ). n / entry_size) appending_long
+  same_room = ap (λ (n : ℕ). n / entry_size) p.long
 
   -- the byte to come
   next : i < length bytes → x ≡ append (room_of b) w (get_or bytes i 0 ∷ drop (suc i) bytes) newest at p.log
@@ -82,7 +81,7 @@ module _ (b : LogBuffer) (w : ℕ) (bytes : List ℕ) (x : Stored) {c : LogBuffe
         let n = p.becomes.count in
         let f = p.fits in
         let s = same_room in
-        let long = appending_long in
+        let long = p.long in
         let new = entry w newest at (get_or bytes i 0) in
         let one : suc (length p.log) ≡ d.count = omega arith in
         let step : suc i ≡ i + 1 = omega arith in
@@ -99,6 +98,7 @@ module _ (b : LogBuffer) (w : ℕ) (bytes : List ℕ) (x : Stored) {c : LogBuffe
             same = h.1.same ∙ p.becomes.same;
           };
           fits = omega arith;
+          long = ap length h.1.numbers ∙ length-sets c.numbers.now (entry_size * c.count) (fields_of (entry w newest at byte)) ∙ p.long;
           makes =
               next k
               ∙ append_fits (room_of b) w (get_or bytes i 0) (drop (suc i) bytes) newest at p.log (lt-ltb (length p.log) (room_of b) (omega arith))
@@ -111,6 +111,36 @@ module _ (b : LogBuffer) (w : ℕ) (bytes : List ℕ) (x : Stored) {c : LogBuffe
   appending_ends k =
       let e = p.makes ∙ ap (λ (more : List ℕ). append (room_of b) w more newest at p.log) (drop_of_length-le bytes k) in
       leaves_log x (stored (Memory w newest) p.log) e p.becomes
+
+-- ------------------------------------------------------------------------------------------------
+-- A store of z bits, byte by byte: a law for each way that its loop goes, whatever the ways are called
+
+-- a push of the byte to come
+pub push_on :
+    (b : LogBuffer) (w z : ℕ) (big : Bool) (value : Value) (x : Stored) {c d : LogBuffer} {newest at next i byte : ℕ}
+    → Appending b w (bytes_in z big value) x c newest at i → i < z / 8 → byte ≡ get_or (bytes_in z big value) i 0 → c.count < room_of c
+    → Pushed c (entry w newest at byte) d → next ≡ succ w at → Appending b w (bytes_in z big value) x d d.count next (i + 1)
+push_on b w z big value x p more is free pushed up =
+    let n = length-bytes_in z big value in
+    rw up (appending_on b w (bytes_in z big value) x p (omega arith) is (free, pushed))
+
+-- where the log has no room for it, or none is to come
+module _ (room w z : ℕ) (big : Bool) (value : Value) (newest at : ℕ) (L : Log) (i : ℕ) where
+  pub push_full : i < z / 8 → room ≤ length L → append room w (drop i (bytes_in z big value)) newest at L ≡ Access.full L
+  push_full more none =
+      let n = length-bytes_in z big value in
+      let k : i < length (bytes_in z big value) = omega arith in
+      let bytes = bytes_in z big value in
+      ap (λ (more : List ℕ). append room w more newest at L) (drop-cons bytes i 0 k)
+      ∙ append_full room w (get_or bytes i 0) (drop (suc i) bytes) newest at L (le-ltb (length L) room none)
+
+  pub push_ends : z / 8 ≤ i → append room w (drop i (bytes_in z big value)) newest at L ≡ stored (Memory w newest) L
+  unfolding append
+  push_ends none =
+      let n = length-bytes_in z big value in
+      ap (λ (more : List ℕ). append room w more newest at L) (drop_of_length-le (bytes_in z big value) (omega arith))
+
+pub ruleset appends = (push_on, push_full, push_ends)
 
 -- ------------------------------------------------------------------------------------------------
 -- A store, by what its address is

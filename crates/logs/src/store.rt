@@ -31,6 +31,7 @@ fn byte_of(value: Value, z: u32, big: bool, i: u32) -> u64
 }
 
 // The bytes of a value appended to the chain from an entry, or from none.
+#[tactic(auto, using(crate::proofs::AppendLaws::appends))]
 fn append(
     log: &mut LogBuffer,
     z: u32,
