@@ -134,6 +134,18 @@ test_other (Word w n) never = absurd (never w n refl)
 test_other (Unknown t) never = refl
 test_other (Memory w head) never = refl
 
+-- each value, whatever the arm that meets it is called
+pub test_of_word : (w n : ℕ) → test_of (Word w n) ≡ Ok (eqb n 1)
+test_of_word w n = sym (test_word w n)
+
+pub test_of_unknown : (t : ValueType) → test_of (Unknown t) ≡ Err Stops.GuardUnknown
+test_of_unknown t = sym (test_other (Unknown t) (λ w n e. impossible (cc)))
+
+pub test_of_memory : (w head : ℕ) → test_of (Memory w head) ≡ Err Stops.GuardUnknown
+test_of_memory w head = sym (test_other (Memory w head) (λ v n e. impossible (cc)))
+
+pub ruleset guards = (test_of_word, test_of_unknown, test_of_memory)
+
 -- the test by an evaluation's answer
 abbrev by : Result Value Stop → Result Bool Stop
 by (Ok v) = test_of v
@@ -143,6 +155,11 @@ by_answer : (x : E.Evaluated) → by (answer x) ≡ tested x
 unfolding tested
 by_answer (E.value v L) = refl
 by_answer (E.stopped code L) = refl
+
+pub tested_by : (x : E.Evaluated) → tested x ≡ by (answer x)
+tested_by x = sym (by_answer x)
+
+pub ruleset tests = (tested_by, bindings_none)
 
 -- by what the evaluation gave
 module _ (s σ : List ℕ) {l m : LogBuffer} (e : ℕ) where

@@ -1,6 +1,6 @@
 -- What the functions of statements without bodies ask and leave. Assumes nothing.
 use mathlib.Core.Path.{◌≡◌, refl, sym, ap, subst, ◌∙◌}
-use mathlib.Core.List.{List}
+use mathlib.Core.List.{List, []}
 use mathlib.Core.Option.{none, some}
 use Prim.Native.Nat.{ℕ, suc, ◌+◌, ◌*◌, ◌<◌}
 use native.Mathlib.Omega.{arith}
@@ -11,12 +11,15 @@ use Rattle.value.specs.declared.Value.{Value}
 use Rattle.value.specs.declared.Value.TheVariants.{Word, Unknown, Memory}
 use Rattle.table.specs.declared.Node.{Node}
 use Rattle.table.specs.Bytes.{header, statement}
-use Rattle.table.specs.Decode.{block_at}
+use Rattle.table.specs.Records.{RecordsHold}
+use Rattle.table.specs.Decode.{block_at, context, expr}
+use Rattle.memory.specs.Log.{Log}
 use Rattle.memory.specs.Buffer.{held, room_of}
 use Rattle.evaluation.specs.State.{moved}
 use Rattle.evaluation.specs.Evaluation as E
+use Rattle.running.specs.declared.Ending.{Ending}
 use Rattle.running.specs.declared.Ending.TheVariants.{Done, Stopped}
-use Rattle.running.specs.Run.{Left, left, stop, target}
+use Rattle.running.specs.Run.{Left, left, stop, run, target}
 use Rattle.evaluate.proofs.WentLaws.{Went}
 use Rattle.effect.specs.declared.Halt.{Halt}
 use Rattle.effect.specs.declared.Machine.{Machine}
@@ -131,3 +134,56 @@ module _ {s : List ℕ} {m : Machine} {i : ℕ} {r : Node} (here : Running s m) 
       other_op here.records at (λ e. n1 (same_op ∙ e)) (λ e. n2 (same_op ∙ e)) (λ e. n5 (same_op ∙ e)) (λ e. n6 (same_op ∙ e))
       (λ e. leaves_left Done unmoved (cpuexn_alone s i here_inside (room_of m.log.now) m.state.now (held m.log.now) m.ticks m.next e) refl refl refl)
       (λ e. leaves_left Done unmoved (special_alone s i here_inside (room_of m.log.now) m.state.now (held m.log.now) m.ticks m.next e) refl refl refl)
+
+-- ------------------------------------------------------------------------------------------------
+-- A move's and a jump's run by the evaluation alone, and what they ask: laws that hold whatever the ways of the code are called
+
+module _ (s : List ℕ) (i room t : ℕ) (σ : List ℕ) (L : Log) (a : ℕ) where
+  abbrev pub ends_as : Ending → List ℕ → Log → ℕ → Left
+  ends_as e τ M d = record { ending = e; remaining = t; state = τ; log = M; next = d }
+
+  abbrev pub moving : E.Evaluated → Left
+  moving x = elim x [ E.stopped code M ↦ ends_as (Stopped code i) σ M a | E.value v M ↦ ends_as Done (moved σ (statement s i).a v) M a ]
+
+  abbrev pub going : Log → Value → Left
+  going M v = elim v [
+    | Word w d ↦ ends_as Done σ M d
+    | Unknown t ↦ ends_as (Stopped Stops.JumpUnknown i) σ M a
+    | Memory w head ↦ ends_as (Stopped Stops.JumpUnknown i) σ M a
+  ]
+
+  abbrev pub jumping : E.Evaluated → Left
+  jumping x = elim x [ E.stopped code M ↦ ends_as (Stopped code i) σ M a | E.value v M ↦ going M v ]
+
+  module _ (records : RecordsHold s) (at : Standing s i) where
+    pub move_run : (statement s i).op ≡ 1 → run (context s) room (suc t) (block_at s i 1) σ L a ≡ moving (E.eval (context s) room σ (expr s (statement s i).b) [] L)
+    unfolding stop left
+    move_run op = go (E.eval (context s) room σ (expr s (statement s i).b) [] L) refl
+      where
+        go : (x : E.Evaluated) → E.eval (context s) room σ (expr s (statement s i).b) [] L ≡ x → run (context s) room (suc t) (block_at s i 1) σ L a ≡ moving x
+        go (E.stopped code M) e = move_stops s i (inside records at) room σ L t a op e
+        go (E.value v M) e = move_value s i (inside records at) room σ L t a op e
+
+    pub jump_run : (statement s i).op ≡ 2 → run (context s) room (suc t) (block_at s i 1) σ L a ≡ jumping (E.eval (context s) room σ (expr s (statement s i).a) [] L)
+    unfolding stop left target
+    jump_run op = go (E.eval (context s) room σ (expr s (statement s i).a) [] L) refl
+      where
+        go : (x : E.Evaluated) → E.eval (context s) room σ (expr s (statement s i).a) [] L ≡ x → run (context s) room (suc t) (block_at s i 1) σ L a ≡ jumping x
+        go (E.stopped code M) e = jmp_stops s i (inside records at) room σ L t a op e
+        go (E.value (Word w d) M) e = jmp_value s i (inside records at) room σ L t a op e
+        go (E.value (Unknown u) M) e = jmp_value s i (inside records at) room σ L t a op e
+        go (E.value (Memory w head) M) e = jmp_value s i (inside records at) room σ L t a op e
+
+module _ (s : List ℕ) (i : ℕ) (records : RecordsHold s) (at : Standing s i) where
+  pub move_value_inside : (statement s i).op ≡ 1 → (statement s i).b < (header s).expressions
+  move_value_inside op = (move_fields records at op).2
+
+  pub move_variable_inside : (statement s i).op ≡ 1 → (statement s i).a < (header s).variables
+  move_variable_inside op = (move_fields records at op).0
+
+  pub jump_value_inside : (statement s i).op ≡ 2 → (statement s i).a < (header s).expressions
+  jump_value_inside op = read_field records at (omega arith) (omega arith) (omega arith)
+
+pub ruleset moves = (move_run, move_value_inside, move_variable_inside)
+
+pub ruleset jumps = (jump_run, jump_value_inside)

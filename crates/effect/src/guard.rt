@@ -12,6 +12,7 @@ use table::read::Table;
 use value::Value;
 
 // By the guard's value: 1 holds and 0 fails; unknown stops, and so does a memory, which no accepted table has for a guard.
+#[tactic(auto, using(crate::proofs::LeavingLaws::guards))]
 fn by_value(v: Value) -> Result<bool, Stop>
     ensures { result ≡ test_of v }
 {
@@ -22,6 +23,7 @@ fn by_value(v: Value) -> Result<bool, Stop>
 }
 
 // Whether expression e holds. Where its evaluation stops the test does, with the same number.
+#[tactic(auto, using(crate::proofs::LeavingLaws::tests))]
 pub fn test(table: &Table, state: &[u64], log: &mut LogBuffer, e: u32) -> Result<bool, Stop>
     requires ready { Ready table.now.frame.bytes.now state.now log.old Bound.none }
     requires e_bound { e < (Bytes.header table.now.frame.bytes.now).expressions }

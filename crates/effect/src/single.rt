@@ -24,6 +24,7 @@ fn value_of(table: &Table, machine: &mut Machine, e: u32, i: u32) -> Result<Valu
 
 // A move: the variable gets the value. Where the evaluation stops the state is as it was. The ticks are what is left once it is begun,
 // here and below.
+#[tactic(auto, using(crate::proofs::SingleLaws::moves))]
 fn moves(table: &Table, machine: &mut Machine, r: Node, i: u32) -> Result<(), Halt>
     requires running { Running table.now.frame.bytes.now machine.old }
     requires standing { Standing table.now.frame.bytes.now i }
@@ -37,6 +38,7 @@ fn moves(table: &Table, machine: &mut Machine, r: Node, i: u32) -> Result<(), Ha
 }
 
 // A jump: the next address is the value. Where the evaluation stops, or the value is unknown, it is as it was.
+#[tactic(auto, using(crate::proofs::SingleLaws::jumps))]
 fn jumps(table: &Table, machine: &mut Machine, r: Node, i: u32) -> Result<(), Halt>
     requires running { Running table.now.frame.bytes.now machine.old }
     requires standing { Standing table.now.frame.bytes.now i }
