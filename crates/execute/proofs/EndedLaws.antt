@@ -131,3 +131,31 @@ came_begun {s} {m₀} {m} {q} {t₀} {whole} {b} c h =
       state = ap (λ (b : _). b.ghost_name) h.state ∙ c.state;
       log = ap (λ (b : _). b.ghost_name) h.log ∙ c.log;
     }
+
+-- ------------------------------------------------------------------------------------------------
+-- A machine that a call is given, and the one that it is known from: the same state, log and next address, and as many ticks
+
+same_runs :
+    (s : List ℕ) (b : Block) (f : ℕ → ℕ) {m q : Machine} → q.state ≡ m.state → q.log ≡ m.log → q.next ≡ m.next → q.ticks ≡ m.ticks
+    → {r : Result ⊤ Halt} {p : Machine} → RunLeaves q (runs s q (f q.ticks) b) r p → RunLeaves m (runs s m (f m.ticks) b) r p
+same_runs s b f state log next ticks h = record {
+  is = rw (← log, ← state, ← next, ← ticks) h.is;
+  ticks = rw (← log, ← state, ← next, ← ticks) h.ticks;
+  next = rw (← log, ← state, ← next, ← ticks) h.next;
+  state = rw (← log, ← state, ← next, ← ticks) h.state;
+  log = rw (← log, ← state, ← next, ← ticks) h.log;
+  same = h.same ∙ ap (λ (b : _). b.ghost_name) state;
+  same_log = h.same_log ∙ ap (λ (b : _). b.ghost_name) log;
+}
+
+module _ (s : List ℕ) {m q : Machine} (state : q.state ≡ m.state) (log : q.log ≡ m.log) (next : q.next ≡ m.next) where
+  -- where a run may go on, it may with any ticks
+  pub same_but_ticks : Running s m → Running s q
+  same_but_ticks here = record { framed = here.framed; records = here.records; typing = here.typing; stands = rw (log, state, next) here.stands }
+
+  module _ (ticks : q.ticks ≡ m.ticks) (b : Block) {r : Result ⊤ Halt} {p : Machine} where
+    pub same_ticks : RunLeaves q (runs s q q.ticks b) r p → RunLeaves m (runs s m m.ticks b) r p
+    same_ticks = same_runs s b (λ t. t) state log next ticks
+
+    pub same_ticks_begun : RunLeaves q (runs s q (suc q.ticks) b) r p → RunLeaves m (runs s m (suc m.ticks) b) r p
+    same_ticks_begun = same_runs s b (λ t. suc t) state log next ticks

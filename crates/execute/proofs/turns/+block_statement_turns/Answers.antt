@@ -1,5 +1,5 @@
 -- `turns::block`, `statement` and `turns`: what each leaves is what the run of its statements leaves. Assumes nothing.
-use Rattle.std.proofs.Common.{sym, ap, subst, ℕ, suc, ◌+◌, ◌≤◌, ◌<◌, arith}
+use Rattle.std.proofs.Common.{refl, sym, ap, subst, ℕ, suc, ◌+◌, ◌≤◌, ◌<◌, arith}
 use Rattle.std.specs.Prelude.{Result, ⊤}
 use Rattle.table.specs.declared.Node.{Node}
 use Rattle.table.specs.Decode.{block_at}
@@ -7,7 +7,7 @@ use Rattle.effect.specs.declared.Halt.{Halt}
 use Rattle.effect.specs.Leaving.{RunLeaves, runs}
 use Rattle.effect.proofs.LeavingLaws.{handed}
 use Rattle.execute.specs.Extent.{bodies_of}
-use Rattle.execute.proofs.EndedLaws.{came_first, came_begun}
+use Rattle.execute.proofs.EndedLaws.{came_first, came_begun, same_but_ticks, same_ticks, same_ticks_begun}
 use Rattle.execute.proofs.LoopLaws.{going_first, end_small, block_ends, stands_at, bodies_before, block_goes_on, block_halts}
 use Rattle.execute.proofs.BodyLaws.{came_without, begun, guard, single_leaves, if_stops, then_block, then_came, then_leaves, else_block, else_came}
 use Rattle.execute.proofs.BodyLaws.{else_leaves, while_body, while_running, while_again, while_halts, while_fewer, while_fails, while_stops}
@@ -24,13 +24,13 @@ block-statement-requires t c =
     let g = c.loop-i.invariant in
     let less = g.came.fewer in
     let mine = c.decreases in
-    (omega arith, (g.came.running, (stands_at g c.loop-i-test.true, c.statement-r.ensures)))
+    (omega arith, (same_but_ticks _ refl refl refl g.came.running, (stands_at g c.loop-i-test.true, c.statement-r.ensures)))
 
 pub block-returns-in_err-statement : goal.block-returns-in_err-statement
 block-returns-in_err-statement t c =
     handed
     (λ (r : Result ⊤ Halt). RunLeaves c.args.machine.now (runs c.args.table.now.frame.bytes.now c.args.machine.now c.args.machine.now.ticks (block_at c.args.table.now.frame.bytes.now c.args.from c.args.size)) r c.statement.new.machine)
-    c.from_residual.ensures (block_halts c.loop-i.invariant c.loop-i-test.true c.statement-r.ensures c.in_err-statement.ensures)
+    c.from_residual.ensures (block_halts c.loop-i.invariant c.loop-i-test.true c.statement-r.ensures (same_ticks _ refl refl refl (omega arith) _ c.in_err-statement.ensures))
 
 pub block-bodies_of-requires : goal.block-bodies_of-requires
 block-bodies_of-requires t c =
@@ -49,7 +49,7 @@ block-overflow_add-i-in-loop-i t c =
 
 pub block-loop-i-preserved : goal.block-loop-i-preserved
 block-loop-i-preserved t c =
-    block_goes_on c.loop-i.invariant c.loop-i-test.true c.statement-r.ensures c.in_ok-statement.ensures
+    block_goes_on c.loop-i.invariant c.loop-i-test.true c.statement-r.ensures (same_ticks _ refl refl refl (omega arith) _ c.in_ok-statement.ensures)
     (ap (λ (k : ℕ). c.loop-i.i + 1 + k) c.bodies_of.ensures)
 
 pub block-returns : goal.block-returns
@@ -115,7 +115,7 @@ pub statement-single-requires : goal.statement-single-requires
 statement-single-requires t c =
     let here = came_begun (came_first c.args.machine.now.ticks (block_at c.args.table.now.frame.bytes.now c.args.i (suc (bodies_of c.args.r))) c.requires.running) c.in_ok-begin-in_default.ensures.begun in
     record {
-      running = here.running;
+      running = same_but_ticks _ refl refl refl here.running;
       standing = c.requires.standing;
       r_value = c.requires.r_value;
       fact = (c.in_default.in_default-own.rest.0.1, c.in_default.in_default-own.rest.1);
@@ -124,7 +124,7 @@ statement-single-requires t c =
 pub statement-returns-in_ok-begin-in_default : goal.statement-returns-in_ok-begin-in_default
 statement-returns-in_ok-begin-in_default t c =
     let here = came_begun (came_first c.args.machine.now.ticks (block_at c.args.table.now.frame.bytes.now c.args.i (suc (bodies_of c.args.r))) c.requires.running) c.in_ok-begin-in_default.ensures.begun in
-    single_leaves c.requires.standing c.requires.r_value here c.in_default.in_default-own.rest.0.1 c.in_default.in_default-own.rest.1 c.single.ensures
+    single_leaves c.requires.standing c.requires.r_value here c.in_default.in_default-own.rest.0.1 c.in_default.in_default-own.rest.1 (same_ticks_begun _ refl refl refl (omega arith) _ c.single.ensures)
 
 -- ------------------------------------------------------------------------------------------------
 -- The turns of a while
