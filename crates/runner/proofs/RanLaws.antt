@@ -95,3 +95,8 @@ module _ (s : Start) (a : Accepts s) where
 pub gives_as : {x : Outcomes.Result} {e f : Ending} {t n a : ℕ} {σ τ l m : List ℕ} → f ≡ e → τ ≡ σ → m ≡ l
     → Gives x (record { ending = e; ticks = t; count = n; next = a }) σ l → Gives x (record { ending = f; ticks = t; count = n; next = a }) τ m
 gives_as p q r g = rw (p, q, r) g
+
+-- the same where the ticks are another number with its value
+pub gives_ticks : {x : Outcomes.Result} {e f : Ending} {t u n a : ℕ} {σ τ l m : List ℕ} → u ≡ t → f ≡ e → τ ≡ σ → m ≡ l
+    → Gives x (record { ending = e; ticks = t; count = n; next = a }) σ l → Gives x (record { ending = f; ticks = u; count = n; next = a }) τ m
+gives_ticks o p q r g = rw (o, p, q, r) g

@@ -3,7 +3,7 @@ use Rattle.std.proofs.Common.{◌≡◌, refl, sym, ap, subst, ◌∙◌, rules,
 use Rattle.table.specs.Records.{Framed}
 use Rattle.effect.specs.Leaving.{ended}
 use Rattle.starts.specs.Lent.{lent}
-use Rattle.runner.proofs.RanLaws.{read, running, whole, ticks_most, gives_ran, gives_as, again}
+use Rattle.runner.proofs.RanLaws.{read, running, whole, ticks_most, gives_ran, gives_as, gives_ticks, again}
 use Rattle.runner.proofs.accepted.run_accepted.Goals as goal
 use Rattle.runner.proofs.accepted.run_accepted.Goals.{in-Ok, in-Err}
 
@@ -46,7 +46,7 @@ returns-clause-gives c =
     let a = c.args in
     let ending : c.match-block.ending ≡ ended c.block.result =
     elim c.match-block.branch [ in-Ok w ↦ w.ending-is ∙ sym (ap ended w.in-Ok.is) | in-Err w ↦ w.ending-is ∙ sym (ap ended w.in-Err.is) ] in
-    gives_as ending (search rules) (search rules)
+    gives_ticks (omega arith) ending (search rules) (search rules)
     (gives_ran (lent a.table.now a.state.now a.log.now a.count a.next a.budget) c.requires
     (record { state = refl; log = refl; count = refl; next = refl; ticks = refl }) _ c.header.ensures c.block.ensures)
 
