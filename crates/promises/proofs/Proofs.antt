@@ -6,14 +6,16 @@ use Prim.Native.Nat.{ℕ}
 use lib.ListN.{length}
 use Rattle.std.specs.Borrow.{Bor, MutBor}
 use borrow.Author.Tests.{eq-eqb, ne_eqb}
-use Rattle.std.specs.Prelude.{if◌then◌else◌}
+use Rattle.std.specs.Prelude.{if◌then◌else◌, Ok, Err}
 use Rattle.base.specs.Refusals.{Answer, code_of, place_of}
+use Rattle.table.specs.Bytes.{header}
 use Rattle.typing.specs.Verdict.{check}
 use Rattle.sealing.specs.Verdict.{seal_check}
 use Rattle.running.specs.Start.{Start}
 use Rattle.running.specs.Result.{Accepts, Result, result, ran, next_start}
 use Rattle.running.proofs.StartLaws.{result_ran}
 use Rattle.running.proofs.AcceptedLaws.{next_accepts}
+use Rattle.verdict.proofs.CheckLaws.{checked}
 use Rattle.runner.specs.declared.Outcome.{Outcome}
 use Rattle.runner.specs.Given.{Gives}
 use Rattle.secrecy.specs.Agreement.{SameResult}
@@ -21,7 +23,7 @@ use Rattle.demands.specs.Demands.{answer_of, Demand1, Demand2, Demand3}
 use Rattle.demands.proofs.Theorems as Demands
 use Rattle.bil.specs.RunCall.{Left, left, numbers}
 use Rattle.bil.specs.RunCall as Outside
-use Rattle.promises.specs.Promises.{Call, call, AsksNothing, Parameters, result_of, CheckCall, SealCall, EntryCall, AcceptedCall, code, from_accepted}
+use Rattle.promises.specs.Promises.{Call, call, AsksNothing, Parameters, result_of, CheckCall, ReadingCall, SealCall, EntryCall, AcceptedCall, code, from_reading, from_accepted}
 use Rattle.promises.specs.Promises.{CheckCode, CheckPlace, SealCode, SealPlace, RunCall, Answered, answered, told, Returned, returned, in_c}
 use Rattle.promises.specs.Promises.{Plain, NothingAsked}
 
@@ -39,6 +41,7 @@ nothing_asked =
       bil_word_value = λ κ a. tt;
       bil_run = λ κ a. tt;
       check = λ κ a. tt;
+      accepted = λ κ a. tt;
       seal-check = λ κ a. tt;
       run = λ κ a. tt;
     }
@@ -55,6 +58,9 @@ free asks κ a r exit kept = call κ a r exit (asks κ a) kept
 checks : {s : List ℕ} {r : Answer} → code.check s r → r ≡ check s
 checks (call κ a r exit asked kept) = kept
 
+reading_checks : {s : List ℕ} {r : Answer} → from_reading.check s r → r ≡ check s
+reading_checks (call κ a r exit asked kept) = kept.0
+
 seal_checks : {s : List ℕ} {r : Answer} → code.seal s r → r ≡ seal_check s
 seal_checks (call κ a r exit asked kept) = kept
 
@@ -69,6 +75,9 @@ runs_accepted (call κ a r exit asked kept) = all exit kept.0 ∙ sym (result_ra
 
 code_gives : Demands.Gives code
 code_gives = record { check = checks; seal = seal_checks; run = runs }
+
+reading_gives : Demands.Gives from_reading
+reading_gives = record { check = reading_checks; seal = seal_checks; run = runs }
 
 accepted_gives : Demands.Gives from_accepted
 accepted_gives = record { check = checks; seal = seal_checks; run = runs_accepted }
@@ -101,9 +110,24 @@ code_takes =
           free nothing_asked.run ([], ([], ([], tt))) (lend s s.state s.log) (outcome_of x) (lend s x.state x.log) (gives x);
     }
 
+-- a table that is accepted is read: its frame and its records hold
+reading : (s : List ℕ) (x : Answer) → check s ≡ x → ReadingCall s x
+reading s (Ok _) e =
+    let is = checked s e in
+    free nothing_asked.accepted ([], tt) (ref s, tt)
+    (Ok record { frame = record { bytes = ref s; header = header s; framed = is.framed }; records = is.hold })
+    (ref s, tt) (sym e, refl)
+reading s (Err refused) e = free nothing_asked.accepted ([], tt) (ref s, tt) (Err refused) (ref s, tt) (sym e, tt)
+
+reading_takes : Demands.Takes from_reading
+reading_takes = record { check = λ s. reading s (check s) refl; seal = code_takes.seal; run = code_takes.run }
+
 -- every call is in the library
 pub every_check : {s : List ℕ} {r : Answer} → CheckCall s r → code.check s r
 every_check c = c
+
+pub every_reading : {s : List ℕ} {r : Answer} → ReadingCall s r → from_reading.check s r
+every_reading c = c
 
 pub every_seal : {s : List ℕ} {r : Answer} → SealCall s r → code.seal s r
 every_seal c = c
@@ -200,6 +224,15 @@ demand_2 = Demands.demand_2 code code_gives
 
 pub demand_3 : Demand3 code
 demand_3 = Demands.demand_3 code code_gives
+
+pub reading_demand_1 : Demand1 from_reading
+reading_demand_1 = Demands.demand_1 from_reading reading_gives reading_takes
+
+pub reading_demand_2 : Demand2 from_reading
+reading_demand_2 = Demands.demand_2 from_reading reading_gives
+
+pub reading_demand_3 : Demand3 from_reading
+reading_demand_3 = Demands.demand_3 from_reading reading_gives
 
 pub accepted_demand_2 : Demand2 from_accepted
 accepted_demand_2 = Demands.demand_2 from_accepted accepted_gives

@@ -3,6 +3,7 @@
 -- three demands hold of each library here. A contract speaks of lists of any numbers, so whatever can be lent is among them. Assumes nothing.
 use Rattle.std.specs.Prelude.{◌≡◌, List, ℕ, length, get_or}
 use Rattle.std.specs.Borrow.{Bor, MutBor}
+use Rattle.base.specs.Refusals as Refusals
 use Rattle.base.specs.Refusals.{Answer, Accepted, code_of, place_of}
 use Rattle.running.specs.Start.{Start}
 use Rattle.running.specs.Result.{Result}
@@ -35,9 +36,13 @@ abbrev pub result_of : Outcome → Parameters → Result
 result_of r exit =
     record { ending = r.ending; ticks = r.ticks; count = r.count; next = r.next; state = exit.1.0.now; log = exit.1.1.0.now }
 
--- `verdict::check`, `verdict::seal_check`, `runner::entry::run` and `runner::accepted::run_accepted` took this and gave that
+-- `verdict::check`, `verdict::accepted`, `verdict::seal_check`, `runner::entry::run` and `runner::accepted::run_accepted` took this and gave that
 abbrev pub CheckCall : List ℕ → Answer → Type 0
 CheckCall = Call verdict.check.Reads.Pre verdict.check.Reads.Post (λ a. a.0.now) (λ r exit. r)
+
+-- of which the second gives an accepted table too: its answer is what it refuses with, or that it accepts
+abbrev pub ReadingCall : List ℕ → Answer → Type 0
+ReadingCall = Call verdict.accepted.Reads.Pre verdict.accepted.Reads.Post (λ a. a.0.now) (λ r exit. Refusals.answer_of r)
 
 abbrev pub SealCall : List ℕ → Answer → Type 0
 SealCall = Call verdict.seal_check.Reads.Pre verdict.seal_check.Reads.Post (λ a. a.0.now) (λ r exit. r)
@@ -50,6 +55,10 @@ AcceptedCall = Call runner.accepted.run_accepted.Reads.Pre runner.accepted.run_a
 
 abbrev pub code : Library
 code = record { check = CheckCall; seal = SealCall; run = EntryCall }
+
+-- the verdict of whoever goes on with the table that it gives, as `bilrun` and the run
+abbrev pub from_reading : Library
+from_reading = record { check = ReadingCall; seal = SealCall; run = EntryCall }
 
 -- the last asks for an accepted start: demands 2 and 3 speak of no other
 abbrev pub from_accepted : Library
@@ -125,5 +134,6 @@ pub record NothingAsked : Type 0 where
   pub bil_word_value : AsksNothing bil.bil_word_value.Reads.Pre
   pub bil_run : AsksNothing bil.bil_run.Reads.Pre
   pub check : AsksNothing verdict.check.Reads.Pre
+  pub accepted : AsksNothing verdict.accepted.Reads.Pre
   pub seal-check : AsksNothing verdict.seal_check.Reads.Pre
   pub run : AsksNothing runner.entry.run.Reads.Pre
