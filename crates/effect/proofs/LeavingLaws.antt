@@ -156,10 +156,10 @@ unfolding tested
 by_answer (E.value v L) = refl
 by_answer (E.stopped code L) = refl
 
-pub tested_by : (x : E.Evaluated) → tested x ≡ by (answer x)
-tested_by x = sym (by_answer x)
+pub tested_is : (x : E.Evaluated) → tested x ≡ by (answer x)
+tested_is x = sym (by_answer x)
 
-pub ruleset tests = (tested_by, bindings_none)
+pub ruleset tests = (tested_is, bindings_none)
 
 -- by what the evaluation gave
 module _ (s σ : List ℕ) {l m : LogBuffer} (e : ℕ) where

@@ -1,8 +1,8 @@
 // The value of an expression by recursion on its operands, whose numbers are lower, in paper 01's order. It goes no deeper than the
 // table does: 64 expressions. Where an operand stops, that is the expression's own outcome.
 //
-// A call zeroes the room of its locals, so the bindings are a local of `eval`, which is handed them, and of `inside`, which makes one more,
-// and of no function that evaluates an operand without operands.
+// A call zeroes the room of its locals, so no step makes bindings among its own: `operand` copies them for `eval` where it goes down, and
+// `inside` makes one more.
 ghost use Rattle.std.specs.Prelude.{◌<◌};
 ghost use Rattle.value.specs.Values.{size, type_of};
 ghost use Rattle.table.specs.Bytes as Bytes;

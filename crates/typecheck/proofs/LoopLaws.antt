@@ -1,9 +1,6 @@
 -- What a while asks of types, apart from the other statements. Assumes nothing.
 use Rattle.std.specs.Prelude.{Option}
-use mathlib.Core.Path.{◌≡◌, ap, sym, ◌∙◌}
-use mathlib.Core.Bool.{Bool}
-use mathlib.Core.List.{List}
-use Prim.Native.Nat.{ℕ}
+use Rattle.std.proofs.Common.{◌≡◌, ap, sym, ◌∙◌, Bool, List, ℕ}
 use Rattle.value.specs.declared.ValueType.{ValueType}
 use Rattle.value.specs.declared.ValueType.TheVariants.{Imm}
 use Rattle.table.specs.declared.Node.{Node}
