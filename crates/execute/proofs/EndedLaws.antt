@@ -8,7 +8,7 @@ use Rattle.base.specs.declared.Refusal.{Refusal}
 use Rattle.base.specs.declared.codes.Stop.{Stop}
 use Rattle.table.specs.Decode.{Context, context}
 use Rattle.table.specs.Syntax.{Block}
-use Rattle.memory.specs.Buffer.{held, room_of}
+use Rattle.memory.specs.Buffer.{held, room_of, Becomes}
 use Rattle.logs.proofs.AfterLaws.{becomes_held}
 use Rattle.running.specs.declared.Ending.{Ending}
 use Rattle.running.specs.declared.Ending.TheVariants.{Refused, Stopped}
@@ -159,3 +159,16 @@ module _ (s : List ℕ) {m q : Machine} (state : q.state ≡ m.state) (log : q.l
 
     pub same_ticks_begun : RunLeaves q (runs s q (suc q.ticks) b) r p → RunLeaves m (runs s m (suc m.ticks) b) r p
     same_ticks_begun = same_runs s b (λ t. suc t) state log next ticks
+
+-- what a run leaves, in a machine that has the same state, log and next address, and as many ticks
+pub leaves_same_ticks : {m q p : Machine} {x : Left} {r : Result ⊤ Halt} → p.state ≡ q.state → p.log ≡ q.log → p.next ≡ q.next → p.ticks ≡ q.ticks
+    → RunLeaves m x r q → RunLeaves m x r p
+leaves_same_ticks {m} {x = x} state log next ticks h = record {
+  is = h.is;
+  ticks = ticks ∙ h.ticks;
+  next = next ∙ h.next;
+  state = ap (λ (b : _). b.now) state ∙ h.state;
+  log = subst (λ (b : _). Becomes m.log.now x.log b.now) (sym log) h.log;
+  same = ap (λ (b : _). b.ghost_name) state ∙ h.same;
+  same_log = ap (λ (b : _). b.ghost_name) log ∙ h.same_log;
+}

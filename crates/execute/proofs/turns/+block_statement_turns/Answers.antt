@@ -7,7 +7,7 @@ use Rattle.effect.specs.declared.Halt.{Halt}
 use Rattle.effect.specs.Leaving.{RunLeaves, runs}
 use Rattle.effect.proofs.LeavingLaws.{handed}
 use Rattle.execute.specs.Extent.{bodies_of}
-use Rattle.execute.proofs.EndedLaws.{came_first, came_begun, same_but_ticks, same_ticks, same_ticks_begun}
+use Rattle.execute.proofs.EndedLaws.{came_first, came_begun, same_but_ticks, same_ticks, same_ticks_begun, leaves_same_ticks}
 use Rattle.execute.proofs.LoopLaws.{going_first, end_small, block_ends, stands_at, bodies_before, block_goes_on, block_halts}
 use Rattle.execute.proofs.BodyLaws.{came_without, begun, guard, single_leaves, if_stops, then_block, then_came, then_leaves, else_block, else_came}
 use Rattle.execute.proofs.BodyLaws.{else_leaves, while_body, while_running, while_again, while_halts, while_fewer, while_fails, while_stops}
@@ -148,7 +148,9 @@ turns-returns-in_err-holds t c =
     (while_stops (begun c.requires.standing c.requires.r_value c.requires.op_value c.loop-machine.invariant c.in_ok-begin.ensures.begun) c.in_err-holds.ensures)
 
 pub turns-returns-then-not-branch : goal.turns-returns-then-not-branch
-turns-returns-then-not-branch t c = while_fails (begun c.requires.standing c.requires.r_value c.requires.op_value c.loop-machine.invariant c.in_ok-begin.ensures.begun) c.in_ok-holds.ensures c.if-not-branch.true
+turns-returns-then-not-branch t c =
+    leaves_same_ticks refl refl refl (omega arith)
+    (while_fails (begun c.requires.standing c.requires.r_value c.requires.op_value c.loop-machine.invariant c.in_ok-begin.ensures.begun) c.in_ok-holds.ensures c.if-not-branch.true)
 
 pub turns-block-requires : goal.turns-block-requires
 turns-block-requires t c =
