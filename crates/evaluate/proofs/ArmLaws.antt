@@ -237,7 +237,7 @@ module _ {s σ : List ℕ} {l : LogBuffer} {b : Bindings} {i : ℕ} {r : Node} {
   pub one_below : a < i
   one_below = below here
 
-  one_stops : {code : Stop} {m : LogBuffer} → Call s σ l b a (Err code) m → Leaves l (whole here) (Err code) m
+  pub one_stops : {code : Stop} {m : LogBuffer} → Call s σ l b a (Err code) m → Leaves l (whole here) (Err code) m
   unfolding eval_by
   one_stops first = let h = below here in stops_first here.ready a (omega arith) first _ (by here)
 
@@ -288,7 +288,7 @@ module _ {s σ : List ℕ} {l : LogBuffer} {b : Bindings} {i : ℕ} {r : Node} {
     pub two_ready : Ready s σ m b
     two_ready = stays here.ready went_first
 
-    two_stops_second : {code : Stop} {p : LogBuffer} → Call s σ m b c (Err code) p → Leaves l (whole here) (Err code) p
+    pub two_stops_second : {code : Stop} {p : LogBuffer} → Call s σ m b c (Err code) p → Leaves l (whole here) (Err code) p
     two_stops_second second =
         let g = (below here).1 in
         let (t, k) = known_call two_ready c (omega arith) second in
@@ -439,6 +439,13 @@ module _ {s σ : List ℕ} {l : LogBuffer} {b : Bindings} {i : ℕ} {r : Node} {
           let g = (below here).1 in
           then_value (rest v) after_one (gave three_ready c (omega arith) second)
           ∙ ap (λ (k : ℕ). eval_at s k σ d (bindings_of b) (held p) and_then last v w) (sym (same_room both))
+
+      pub three_stops_third : {code : Stop} {q : LogBuffer} → Call s σ p b d (Err code) q → Leaves l (whole here) (Err code) q
+      three_stops_third third =
+          let h = (below here).2 in
+          let (t, k) = known_call three_ready_last d (omega arith) third in
+          let z = ended k in
+          leaves_stop (went_trans both z.went) (then_stop (last v w) after_two z.is)
 
       module _ {e : Result Value Stop} {q : LogBuffer} (last_call : Call s σ p b d e q) where
         given : {f : Result Value Stop} → e ≡ f → Call s σ p b d f q
