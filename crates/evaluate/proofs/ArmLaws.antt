@@ -440,19 +440,15 @@ module _ {s σ : List ℕ} {l : LogBuffer} {b : Bindings} {i : ℕ} {r : Node} {
           then_value (rest v) after_one (gave three_ready c (omega arith) second)
           ∙ ap (λ (k : ℕ). eval_at s k σ d (bindings_of b) (held p) and_then last v w) (sym (same_room both))
 
+      went_third : {code : Stop} {q : LogBuffer} → Call s σ p b d (Err code) q → Ended p (evaluated s σ p (bindings_of b) d) code q
+      went_third third = let h = (below here).2 in let (t, k) = known_call three_ready_last d (omega arith) third in ended k
+
       pub three_stops_third : {code : Stop} {q : LogBuffer} → Call s σ p b d (Err code) q → Leaves l (whole here) (Err code) q
-      three_stops_third third =
-          let h = (below here).2 in
-          let (t, k) = known_call three_ready_last d (omega arith) third in
-          let z = ended k in
-          leaves_stop (went_trans both z.went) (then_stop (last v w) after_two z.is)
+      three_stops_third third = let z = went_third third in leaves_stop (went_trans both z.went) (then_stop (last v w) after_two z.is)
 
       module _ {e : Result Value Stop} {q : LogBuffer} (last_call : Call s σ p b d e q) where
         given : {f : Result Value Stop} → e ≡ f → Call s σ p b d f q
         given is = subst (λ (e : Result Value Stop). Call s σ p b d e q) is last_call
-
-        went_third : {code : Stop} → Call s σ p b d (Err code) q → Ended p (evaluated s σ p (bindings_of b) d) code q
-        went_third third = let h = (below here).2 in let (t, k) = known_call three_ready_last d (omega arith) third in ended k
 
         pub three_asks : AfterThree q r v w e
         three_asks = record {
